@@ -1,0 +1,43 @@
+// What can keep the program from its answer.
+ghost use mathlib.Core.Path.{_≡_};
+ghost use Rattle.facetribbon.specs.declared.fault.Fault.the-variants.{Sheet, Io};
+use sheet::fault::SheetFault;
+use std::alloc::Global;
+use std::io;
+
+/// The program's fault. It holds the reader's fault whole, with its layer and place.
+#[derive(Drop)]
+pub(crate) enum Fault {
+    Sheet(SheetFault),
+    Io(io::Error),
+}
+
+pub(crate) impl From<SheetFault> for Fault as FaultFromSheet {
+    ghost converts = { λ e r. r ≡ Sheet e };
+
+    fn from(e: SheetFault) -> Fault {
+        Fault::Sheet(e)
+    }
+}
+
+pub(crate) impl From<io::Error> for Fault as FaultFromIo {
+    ghost converts = { λ e r. r ≡ Io e };
+
+    fn from(e: io::Error) -> Fault {
+        Fault::Io(e)
+    }
+}
+
+impl Fault {
+    /// Prints a refusal; hands on what is no refusal.
+    pub(crate) fn report(self, rt: &LibcRuntime, heap: Global) -> io::Result<()> {
+        match self {
+            Fault::Sheet(SheetFault::NoMemory) => Err(io::Error::from(io::ErrorKind::OutOfMemory)),
+            Fault::Sheet(fault) => {
+                let line = fault.told().line_of(heap)?;
+                println!(rt, "{line}")
+            }
+            Fault::Io(e) => Err(e),
+        }
+    }
+}

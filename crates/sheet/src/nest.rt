@@ -1,0 +1,19 @@
+// A nest, which keeps every range of the format and stays inside its arrays.
+ghost use mathlib.Core.Path.{_≡_};
+ghost use mathlib.Core.Bool.{true};
+ghost use Rattle.std.specs.Of.Vec.{vec-items};
+ghost use Rattle.sheet.specs.Sound.{nestKept};
+ghost use Rattle.sheet.specs.Views.{saidAll};
+use crate::terms::Array;
+use crate::terms::Grid;
+use crate::terms::Statement;
+
+/// A loop nest over arrays dealt out over a grid of boards.
+#[derive(Drop)]
+pub struct Nest {
+    pub(crate) grid: Grid,
+    pub(crate) arrays: Vec<Array>,
+    pub(crate) sweeps: usize,
+    pub(crate) statements: Vec<Statement>,
+    ghost kept: { nestKept grid (vec-items arrays) sweeps (saidAll statements) ≡ true },
+}

@@ -1,0 +1,67 @@
+// Reads a sheet.
+ghost use mathlib.Core.Path.{_≡_};
+ghost use mathlib.Core.Bool.{false};
+ghost use Rattle.std.specs.Of.Vec.{vec-items};
+ghost use Rattle.tokens.specs.Views.{before};
+ghost use Rattle.sheet.specs.Faults.{lost, sheetAnswer, sheetVerdict};
+ghost use Rattle.sheet.specs.Lines.{linesOf, verdictOn};
+ghost use Rattle.sheet.specs.Views.{saidAll};
+ghost use Rattle.sheet.specs.Nests.{parted, shown};
+use crate::fault::SheetFault;
+use crate::fault::SheetFaultFromLine;
+use crate::lines::array_lines;
+use crate::lines::count_line;
+use crate::lines::grid_line;
+use crate::lines::statements_of;
+use crate::nest::Nest;
+use crate::terms::Array;
+use crate::terms::Grid;
+use crate::terms::Statement;
+use std::alloc::Global;
+use tokens::cursor::Cursor;
+
+/// The parts of a nest, not yet known to be one.
+#[derive(Drop)]
+pub(crate) struct Parts {
+    pub(crate) grid: Grid,
+    pub(crate) arrays: Vec<Array>,
+    pub(crate) sweeps: usize,
+    pub(crate) statements: Vec<Statement>,
+}
+
+fn parts_of(heap: Global, cursor: &mut Cursor) -> Result<Parts, SheetFault>
+    ensures { λ r. ⌜ (lost r ≡ false → sheetAnswer parted r (now (cursor .exit)) ≡ linesOf (before (now (cursor .entry)))) ⌝ }
+{
+    let grid = grid_line(cursor)?;
+    let count = count_line(cursor, b"arrays", 1, 4)?;
+    let arrays = array_lines(heap, cursor, count)?;
+    let sweeps = count_line(cursor, b"sweeps", 0, 1000)?;
+    let number = count_line(cursor, b"stmts", 1, 8)?;
+    let statements = statements_of(heap, cursor, arrays.as_slice(), number)?;
+    cursor.finish()?;
+    Ok(Parts {
+        grid,
+        arrays,
+        sweeps,
+        statements,
+    })
+}
+
+/// Reads a sheet: the nest that it describes, or its first fault.
+pub fn read_sheet(heap: Global, bytes: &[u8]) -> Result<Nest, SheetFault>
+    ensures { λ r. ⌜ (lost r ≡ false → sheetVerdict shown r ≡ verdictOn (now (bytes .entry))) ⌝ }
+{
+    let mut cursor = Cursor::new(bytes);
+    let Parts {
+        grid,
+        arrays,
+        sweeps,
+        statements,
+    } = parts_of(heap, &mut cursor)?;
+    Ok(Nest {
+        grid,
+        arrays,
+        sweeps,
+        statements,
+    })
+}

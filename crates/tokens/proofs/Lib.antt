@@ -1,0 +1,10 @@
+pub mod Fronts
+pub mod Within
+pub mod Steps
+pub mod Numbers
+pub mod Extending
+pub mod Spelling
+pub mod FieldLaws
+pub mod LineLaws
+pub mod Forms
+pub mod FormLaw

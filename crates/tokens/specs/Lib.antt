@@ -1,0 +1,5 @@
+pub mod Extents
+pub mod Texts
+pub mod Views
+pub mod Values
+pub mod FormLaws
