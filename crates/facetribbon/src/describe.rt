@@ -1,10 +1,14 @@
 // Says what a sheet describes.
-use sheet::nest::Nest;
-use sheet::terms::Array;
-use sheet::terms::MapWord;
-use sheet::terms::Mode;
-use sheet::terms::Range;
-use sheet::terms::Statement;
+ghost use lib.Chars.{codes};
+ghost use mathlib.Core.Path.{_≡_};
+ghost use Rattle.std.specs.declared.option.Option.the-variants.{Some};
+ghost use Rattle.facetribbon.specs.Words.{mapText};
+use nest::nest::Nest;
+use nest::terms::Array;
+use nest::terms::MapWord;
+use nest::terms::Mode;
+use nest::terms::Range;
+use nest::terms::Statement;
 use std::fmt;
 use std::io;
 
@@ -13,6 +17,8 @@ use std::io;
 struct Written(MapWord);
 
 impl fmt::Display for Written as WrittenDisplay {
+    ghost shown = { λ w. Some (mapText (w .0)) };
+
     fn fmt<W: fmt::Write>(&self, f: &mut fmt::Formatter<W>) -> fmt::Result {
         match self.0 {
             MapWord::One => write!(f, "one"),

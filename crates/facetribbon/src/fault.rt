@@ -1,7 +1,7 @@
 // What can keep the program from its answer.
 ghost use mathlib.Core.Path.{_≡_};
 ghost use Rattle.facetribbon.specs.declared.fault.Fault.the-variants.{Sheet, Io};
-use sheet::fault::SheetFault;
+use nest::fault::SheetFault;
 use std::alloc::Global;
 use std::io;
 

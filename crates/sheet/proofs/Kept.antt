@@ -9,21 +9,23 @@ use lib.ListN.{length, getD}
 use Rattle.std.proofs.shelf.Tests.{and-from, and-parts, leb-true, lt-ltb}
 use Rattle.tokens.specs.Texts.{Text, Piece, Read, got, refused, then, Form, fieldsOf, nothingLeft}
 use Rattle.tokens.specs.Values.{magnitude, beginsWith}
-use Rattle.sheet.specs.declared.terms.Grid.{Grid}
-use Rattle.sheet.specs.declared.terms.MapWord.{MapWord}
-use Rattle.sheet.specs.declared.terms.MapWord.the-variants.{One, Block, Cyclic, CyclicBy}
-use Rattle.sheet.specs.declared.terms.Array.{Array}
-use Rattle.sheet.specs.declared.terms.Range.{Range}
-use Rattle.sheet.specs.declared.terms.Variable.the-variants.{I, J}
-use Rattle.sheet.specs.declared.terms.Offset.{Offset}
-use Rattle.sheet.specs.declared.terms.Offset.the-variants.{Plus, Minus}
-use Rattle.sheet.specs.declared.terms.Subscript.{Subscript}
-use Rattle.sheet.specs.declared.terms.Access.{Access}
-use Rattle.sheet.specs.declared.terms.ReadTerm.{ReadTerm}
-use Rattle.sheet.specs.Verdicts.{Verdict, fine, wrong, _>>=_, wrongAt, nth, within, offsetOf, mapOf, modeOf, variableOf, far, inside, nowhere, accessOf, gridOf, arrayOf, rangeFrom, Head, headOf, putOf, readOf, countOf}
-use Rattle.sheet.specs.Lines.{judged, lineBy, times, Said, statementOf, Sheet, linesOf}
+use Rattle.nest.specs.declared.terms.Grid.{Grid}
+use Rattle.nest.specs.declared.terms.MapWord.{MapWord}
+use Rattle.nest.specs.declared.terms.MapWord.the-variants.{One, Block, Cyclic, CyclicBy}
+use Rattle.nest.specs.declared.terms.Array.{Array}
+use Rattle.nest.specs.declared.terms.Range.{Range}
+use Rattle.nest.specs.declared.terms.Variable.the-variants.{I, J}
+use Rattle.nest.specs.declared.terms.Offset.{Offset}
+use Rattle.nest.specs.declared.terms.Offset.the-variants.{Plus, Minus}
+use Rattle.nest.specs.declared.terms.Subscript.{Subscript}
+use Rattle.nest.specs.declared.terms.Access.{Access}
+use Rattle.nest.specs.declared.terms.ReadTerm.{ReadTerm}
+use Rattle.sheet.specs.Verdicts.{Verdict, fine, wrong, _>>=_, wrongAt, nth, within, offsetOf, mapOf, modeOf, variableOf, accessOf, gridOf, arrayOf, rangeFrom, Head, headOf, putOf, readOf, countOf}
+use Rattle.nest.specs.Terms.{far, inside, nowhere}
+use Rattle.sheet.specs.Lines.{judged, lineBy, times, statementOf, linesOf}
+use Rattle.nest.specs.Terms.{Said, Sheet}
 use Rattle.sheet.specs.Forms.{gridForm, arraysForm, arrayForm, sweepsForm, stmtsForm, stmtForm, putForm, baseForm, readsForm, readForm}
-use Rattle.sheet.specs.Sound.{between, each, isI, gridKept, mapKept, arrayKept, rangeKept, subscriptKept, accessKept, readKept, statementKept, nestKept}
+use Rattle.nest.specs.Sound.{between, each, isI, gridKept, mapKept, arrayKept, rangeKept, subscriptKept, accessKept, readKept, statementKept, nestKept}
 
 -- a reading that comes to a value came to one first
 pub then-inv : {V W : Type 0} (r : Read V) (f : V → Text → Read W) (w : W) (u : Text) → then r f ≡ got w u → (v : V) × (t : Text) × (r ≡ got v t) × (f v t ≡ got w u)

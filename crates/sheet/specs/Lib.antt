@@ -1,8 +1,7 @@
 pub mod Forms
 pub mod Verdicts
-pub mod Faults
 pub mod Lines
-pub mod Sound
-pub mod Views
+pub mod Answered
+pub mod Fields
 pub mod Heads
-pub mod Nests
+pub mod Parted

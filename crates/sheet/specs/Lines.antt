@@ -2,12 +2,13 @@
 use Prim.Native.Nat.{ℕ, zero, suc}
 use mathlib.Core.List.{List, [], _∷_}
 use Rattle.tokens.specs.Texts.{Text, Piece, Read, got, refused, then, Form, fieldsOf, nothingLeft}
-use Rattle.sheet.specs.declared.terms.Grid.{Grid}
-use Rattle.sheet.specs.declared.terms.Array.{Array}
-use Rattle.sheet.specs.declared.terms.Mode.{Mode}
-use Rattle.sheet.specs.declared.terms.Range.{Range}
-use Rattle.sheet.specs.declared.terms.Access.{Access}
-use Rattle.sheet.specs.declared.terms.ReadTerm.{ReadTerm}
+use Rattle.nest.specs.Terms.{Said, Sheet}
+use Rattle.nest.specs.declared.terms.Grid.{Grid}
+use Rattle.nest.specs.declared.terms.Array.{Array}
+use Rattle.nest.specs.declared.terms.Mode.{Mode}
+use Rattle.nest.specs.declared.terms.Range.{Range}
+use Rattle.nest.specs.declared.terms.Access.{Access}
+use Rattle.nest.specs.declared.terms.ReadTerm.{ReadTerm}
 use Rattle.sheet.specs.Forms.{gridForm, arraysForm, arrayForm, sweepsForm, stmtsForm, stmtForm, putForm, baseForm, readsForm, readForm}
 use Rattle.sheet.specs.Verdicts.{Verdict, fine, wrong, Head, gridOf, arrayOf, headOf, putOf, readOf, countOf}
 
@@ -30,15 +31,6 @@ abbrev pub times : {V : Type 0} → ℕ → (Text → Read V) → Text → Read 
 times zero one t = got [] t
 times (suc n) one t = then (one t) (λ v u. then (times n one u) (λ vs w. got (v ∷ vs) w))
 
--- a statement, with its reads as a list
-pub record Said : Type 0 where
-  pub mode : Mode
-  pub i : Range
-  pub j : Range
-  pub put : Access
-  pub base : ℕ
-  pub reads : List ReadTerm
-
 -- the lines of a statement
 abbrev pub statementOf : List Array → Text → Read Said
 statementOf arrays = do
@@ -48,13 +40,6 @@ statementOf arrays = do
   count ← lineBy readsForm (countOf 0 4)
   reads ← times count (lineBy readForm (readOf arrays head))
   got (record { mode = head .mode; i = head .i; j = head .j; put = put; base = base; reads = reads })
-
--- a nest, with its parts as lists
-pub record Sheet : Type 0 where
-  pub grid : Grid
-  pub arrays : List Array
-  pub sweeps : ℕ
-  pub statements : List Said
 
 -- the lines of a sheet
 abbrev pub linesOf : Text → Read Sheet

@@ -6,20 +6,21 @@ use lib.Dec.{leb}
 use lib.ListN.{length, getD}
 use Rattle.tokens.specs.Texts.{Piece}
 use Rattle.tokens.specs.Values.{magnitude, beginsWith}
-use Rattle.sheet.specs.declared.terms.Grid.{Grid}
-use Rattle.sheet.specs.declared.terms.MapWord.{MapWord}
-use Rattle.sheet.specs.declared.terms.MapWord.the-variants.{One, Block, Cyclic, CyclicBy}
-use Rattle.sheet.specs.declared.terms.Array.{Array}
-use Rattle.sheet.specs.declared.terms.Mode.{Mode}
-use Rattle.sheet.specs.declared.terms.Mode.the-variants.{All, Seq}
-use Rattle.sheet.specs.declared.terms.Range.{Range}
-use Rattle.sheet.specs.declared.terms.Variable.{Variable}
-use Rattle.sheet.specs.declared.terms.Variable.the-variants.{I, J}
-use Rattle.sheet.specs.declared.terms.Offset.{Offset}
-use Rattle.sheet.specs.declared.terms.Offset.the-variants.{Plus, Minus}
-use Rattle.sheet.specs.declared.terms.Subscript.{Subscript}
-use Rattle.sheet.specs.declared.terms.Access.{Access}
-use Rattle.sheet.specs.declared.terms.ReadTerm.{ReadTerm}
+use Rattle.nest.specs.Terms.{far, inside, nowhere}
+use Rattle.nest.specs.declared.terms.Grid.{Grid}
+use Rattle.nest.specs.declared.terms.MapWord.{MapWord}
+use Rattle.nest.specs.declared.terms.MapWord.the-variants.{One, Block, Cyclic, CyclicBy}
+use Rattle.nest.specs.declared.terms.Array.{Array}
+use Rattle.nest.specs.declared.terms.Mode.{Mode}
+use Rattle.nest.specs.declared.terms.Mode.the-variants.{All, Seq}
+use Rattle.nest.specs.declared.terms.Range.{Range}
+use Rattle.nest.specs.declared.terms.Variable.{Variable}
+use Rattle.nest.specs.declared.terms.Variable.the-variants.{I, J}
+use Rattle.nest.specs.declared.terms.Offset.{Offset}
+use Rattle.nest.specs.declared.terms.Offset.the-variants.{Plus, Minus}
+use Rattle.nest.specs.declared.terms.Subscript.{Subscript}
+use Rattle.nest.specs.declared.terms.Access.{Access}
+use Rattle.nest.specs.declared.terms.ReadTerm.{ReadTerm}
 
 -- a value, or a refusal by its number and place
 pub data Verdict (V : Type 0) : Type 0 where
@@ -65,11 +66,6 @@ modeOf p = cond (beginsWith 97 (p .text)) All Seq
 abbrev pub variableOf : Piece → Variable
 variableOf p = cond (beginsWith 105 (p .text)) I J
 
--- how far an offset moves
-abbrev pub far : Offset → ℕ
-far (Plus c) = c
-far (Minus c) = c
-
 -- a range within 1 to 32
 abbrev pub Short : Range → Type 0
 Short r = (1 ≤ r .low) × (r .low ≤ r .high) × (r .high ≤ 32)
@@ -77,29 +73,6 @@ Short r = (1 ≤ r .low) × (r .low ≤ r .high) × (r .high ≤ 32)
 -- a subscript with a factor up to 4 and an offset up to 64 either way
 abbrev pub Near : Subscript → Type 0
 Near s = (s .factor ≤ 4) × (far (s .offset) ≤ 64)
-
--- what a number becomes by an offset; it stops at 0, which is no position
-abbrev pub moved : Offset → ℕ → ℕ
-moved (Plus c) n = n + c
-moved (Minus c) n = n - c
-
--- the position that a subscript names at a value of its variable
-abbrev pub position : Subscript → ℕ → ℕ
-position s v = moved (s .offset) (s .factor * v)
-
--- the range that a variable runs through
-abbrev pub rangeOf : Variable → Range → Range → Range
-rangeOf I i j = i
-rangeOf J i j = j
-
--- positions grow with the variable, so the ends decide whether all lie from 1 to size
-abbrev pub inside : Range → Range → ℕ → Subscript → Bool
-inside i j size s =
-    leb 1 (position s (rangeOf (s .variable) i j .low)) && leb (position s (rangeOf (s .variable) i j .high)) size
-
--- an array that is not there has no size
-abbrev pub nowhere : Array
-nowhere = record { rows = 0; columns = 0; «row_map» = One; «column_map» = One }
 
 -- an element: refusal 4 where the nest has no such array, 6 where the row subscript leaves it, then the column subscript
 abbrev pub accessOf : List Array → Range → Range → Piece → ℕ → Piece → Subscript → Piece → Subscript → Verdict Access

@@ -4,7 +4,7 @@ ghost use mathlib.Core.List.{List, [], _∷_};
 ghost use Rattle.tokens.specs.declared.extent.FieldKind.the-variants.{Number};
 ghost use Rattle.tokens.specs.Texts.{fieldsOf};
 ghost use Rattle.tokens.specs.Views.{partOf, before, answer};
-ghost use Rattle.sheet.specs.Views.{gridParts, arrayParts, statementParts, putParts, readParts};
+ghost use Rattle.sheet.specs.Fields.{gridParts, arrayParts, statementParts, putParts, readParts};
 ghost use Rattle.sheet.specs.Forms.{gridForm, arrayForm, stmtForm, putForm, readForm};
 use tokens::cursor::Cursor;
 use tokens::extent::FieldKind;

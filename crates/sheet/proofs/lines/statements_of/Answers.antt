@@ -7,7 +7,7 @@ use Rattle.std.specs.Of.Vec.{vec-items}
 use Rattle.std.proofs.shelf.Lists.{map-push, length-map}
 use Rattle.std.proofs.shelf.Results.{err-from-errBy}
 use Rattle.tokens.specs.Views.{before}
-use Rattle.sheet.specs.Views.{said, saidAll}
+use Rattle.nest.specs.Views.{said, saidAll}
 use Rattle.sheet.specs.Lines.{statementOf}
 use Rattle.sheet.proofs.Repeats.{Past, past-more, past-all, past-refused}
 use Rattle.sheet.proofs.lines.statements_of.Needs as need

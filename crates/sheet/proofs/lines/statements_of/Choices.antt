@@ -1,7 +1,7 @@
 use Prim.Native.Nat.{_-_, _≤_}
 use Rattle.std.specs.Of.Vec.{vec-len}
 use Rattle.tokens.specs.Views.{before}
-use Rattle.sheet.specs.Views.{saidAll}
+use Rattle.nest.specs.Views.{saidAll}
 use Rattle.sheet.specs.Lines.{statementOf}
 use Rattle.sheet.proofs.Repeats.{Past}
 use Rattle.sheet.proofs.lines.statements_of.Given as given

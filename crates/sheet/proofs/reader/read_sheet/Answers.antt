@@ -1,7 +1,7 @@
 use mathlib.Core.Path.{refl, sym, ap, _∙_}
 use Rattle.tokens.specs.Views.{before}
 use Rattle.sheet.specs.Lines.{linesOf, start}
-use Rattle.sheet.specs.Nests.{parted}
+use Rattle.sheet.specs.Parted.{parted}
 use Rattle.sheet.proofs.Kept.{sheet-kept}
 use Rattle.sheet.proofs.reader.read_sheet.Needs as need
 

@@ -4,18 +4,17 @@ use mathlib.Core.Bool.{Bool, true, false, not, _&&_}
 use mathlib.Core.List.{List, [], _∷_}
 use lib.Dec.{leb, ltb}
 use lib.ListN.{length, getD}
-use Rattle.sheet.specs.declared.terms.Grid.{Grid}
-use Rattle.sheet.specs.declared.terms.MapWord.{MapWord}
-use Rattle.sheet.specs.declared.terms.MapWord.the-variants.{One, Block, Cyclic, CyclicBy}
-use Rattle.sheet.specs.declared.terms.Array.{Array}
-use Rattle.sheet.specs.declared.terms.Range.{Range}
-use Rattle.sheet.specs.declared.terms.Variable.{Variable}
-use Rattle.sheet.specs.declared.terms.Variable.the-variants.{I, J}
-use Rattle.sheet.specs.declared.terms.Subscript.{Subscript}
-use Rattle.sheet.specs.declared.terms.Access.{Access}
-use Rattle.sheet.specs.declared.terms.ReadTerm.{ReadTerm}
-use Rattle.sheet.specs.Verdicts.{far, inside, nowhere}
-use Rattle.sheet.specs.Lines.{Said}
+use Rattle.nest.specs.declared.terms.Grid.{Grid}
+use Rattle.nest.specs.declared.terms.MapWord.{MapWord}
+use Rattle.nest.specs.declared.terms.MapWord.the-variants.{One, Block, Cyclic, CyclicBy}
+use Rattle.nest.specs.declared.terms.Array.{Array}
+use Rattle.nest.specs.declared.terms.Range.{Range}
+use Rattle.nest.specs.declared.terms.Variable.{Variable}
+use Rattle.nest.specs.declared.terms.Variable.the-variants.{I, J}
+use Rattle.nest.specs.declared.terms.Subscript.{Subscript}
+use Rattle.nest.specs.declared.terms.Access.{Access}
+use Rattle.nest.specs.declared.terms.ReadTerm.{ReadTerm}
+use Rattle.nest.specs.Terms.{far, inside, nowhere, Said}
 
 -- a number from low to high
 abbrev pub between : ℕ → ℕ → ℕ → Bool

@@ -1,8 +1,8 @@
 // What a nest tells of itself.
 ghost use mathlib.Core.Path.{_≡_};
 ghost use mathlib.Core.List.{map};
-ghost use Rattle.sheet.specs.Nests.{shown};
-ghost use Rattle.sheet.specs.Views.{said};
+ghost use Rattle.nest.specs.Nests.{shown};
+ghost use Rattle.nest.specs.Views.{said};
 use crate::nest::Nest;
 use crate::terms::Array;
 use crate::terms::Grid;

@@ -1,8 +1,7 @@
 // What can be wrong with a sheet, layer by layer.
 ghost use mathlib.Core.Path.{_≡_};
-ghost use Rattle.sheet.specs.declared.fault.SheetFault.the-variants.{Line, Field, Nest, NoMemory};
+ghost use Rattle.nest.specs.declared.fault.SheetFault.the-variants.{Line, Field, Nest, NoMemory};
 use std::alloc::AllocError;
-use std::alloc::Refused;
 use tokens::fault::LineFault;
 use tokens::part::Place;
 
@@ -63,14 +62,6 @@ pub impl From<AllocError> for SheetFault as SheetFaultFromAlloc {
     ghost converts = { λ _ r. r ≡ NoMemory };
 
     fn from(_e: AllocError) -> SheetFault {
-        SheetFault::NoMemory
-    }
-}
-
-pub impl<T: Drop> From<Refused<T>> for SheetFault as SheetFaultFromRefused {
-    ghost converts = { λ _ r. r ≡ NoMemory };
-
-    fn from(_e: Refused<T>) -> SheetFault {
         SheetFault::NoMemory
     }
 }

@@ -3,7 +3,7 @@ ghost use mathlib.Core.Path.{_≡_};
 ghost use mathlib.Core.List.{_++_};
 ghost use Rattle.std.specs.Of.String.{string-bytes};
 ghost use Rattle.std.specs.Vec.{made};
-ghost use Rattle.sheet.specs.Faults.{nestTold, sheetTold, faultLine};
+ghost use Rattle.nest.specs.Faults.{nestTold, sheetTold, faultLine};
 use crate::fault::NestFault;
 use crate::fault::SheetFault;
 use crate::told::Told;

@@ -1,0 +1,5 @@
+pub mod Terms
+pub mod Faults
+pub mod Views
+pub mod Sound
+pub mod Nests
