@@ -1,50 +1,52 @@
 // Says what a sheet describes.
-ghost use lib.Chars.{codes};
+ghost use Prim.Native.Nat.{_+_, _-_, _<_, _≤_};
 ghost use mathlib.Core.Path.{_≡_};
-ghost use Rattle.std.specs.declared.option.Option.the-variants.{Some};
-ghost use Rattle.facetribbon.specs.Words.{mapText};
+ghost use Rattle.std.specs.Of.String.{string-bytes};
+ghost use Rattle.std.specs.Vec.{made};
+ghost use Rattle.facetribbon.specs.Words.{mapText, modeText};
 use nest::nest::Nest;
 use nest::terms::Array;
 use nest::terms::MapWord;
 use nest::terms::Mode;
 use nest::terms::Range;
 use nest::terms::Statement;
-use std::fmt;
+use std::alloc::AllocError;
+use std::alloc::Global;
 use std::io;
 
-/// A map, as a sheet writes it.
-#[derive(Clone, Copy)]
-struct Written(MapWord);
-
-impl fmt::Display for Written as WrittenDisplay {
-    ghost shown = { λ w. Some (mapText (w .0)) };
-
-    fn fmt<W: fmt::Write>(&self, f: &mut fmt::Formatter<W>) -> fmt::Result {
-        match self.0 {
-            MapWord::One => write!(f, "one"),
-            MapWord::Block => write!(f, "block"),
-            MapWord::Cyclic => write!(f, "cyclic"),
-            MapWord::CyclicBy(k) => write!(f, "cyclic:{k}"),
-        }
+// A map, as a sheet writes it.
+fn map_text(heap: Global, word: MapWord) -> Result<String, AllocError>
+    ensures { λ r. ⌜ made r (λ s. string-bytes s ≡ mapText word) ⌝ }
+{
+    match word {
+        MapWord::One => String::from_str(heap, "one"),
+        MapWord::Block => String::from_str(heap, "block"),
+        MapWord::Cyclic => String::from_str(heap, "cyclic"),
+        MapWord::CyclicBy(k) => format!(heap, "cyclic:{k}"),
     }
 }
 
-fn mode_word(mode: Mode) -> &'static str {
+fn mode_text(mode: Mode) -> &'static str
+    ensures { λ r. ⌜ now r ≡ modeText mode ⌝ }
+{
     match mode {
         Mode::All => "all",
         Mode::Seq => "seq",
     }
 }
 
-fn count_of(range: Range) -> usize {
+// How many values a range has; no range of a nest is past the cap.
+fn count_of(range: Range) -> usize
+    ensures { λ r. ⌜ (range .high < 100 → range .low ≤ range .high → r ≡ range .high - range .low + 1) ⌝ }
+{
     range.high.saturating_sub(range.low).saturating_add(1)
 }
 
 fn describe_array(rt: &LibcRuntime, number: usize, array: &Array) -> io::Result<()> {
     let rows = array.rows;
     let columns = array.columns;
-    let by_rows = Written(array.row_map);
-    let by_columns = Written(array.column_map);
+    let by_rows = map_text(rt.alloc(), array.row_map)?;
+    let by_columns = map_text(rt.alloc(), array.column_map)?;
     println!(
         rt,
         "array {number}: {rows} x {columns}, rows {by_rows}, columns {by_columns}"
@@ -52,7 +54,7 @@ fn describe_array(rt: &LibcRuntime, number: usize, array: &Array) -> io::Result<
 }
 
 fn describe_statement(rt: &LibcRuntime, number: usize, statement: &Statement) -> io::Result<()> {
-    let mode = mode_word(statement.mode);
+    let mode = mode_text(statement.mode);
     let iterations = count_of(statement.i).saturating_mul(count_of(statement.j));
     let reads = statement.reads.len();
     println!(
