@@ -5,7 +5,7 @@ use nest::fault::SheetFault;
 use std::alloc::Global;
 use std::io;
 
-/// The program's fault. It holds the reader's fault whole, with its layer and place.
+/// The program's fault. What the reader found stands inside it unchanged.
 #[derive(Drop)]
 pub(crate) enum Fault {
     Sheet(SheetFault),
