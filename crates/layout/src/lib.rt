@@ -1,0 +1,3 @@
+// Where elements lie in buffers.
+pub mod places;
+pub mod table;

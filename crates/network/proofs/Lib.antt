@@ -1,0 +1,14 @@
+pub mod Diamond
+pub mod Moves
+pub mod Theorems
+pub mod Asking
+pub mod Going
+pub mod Rounds
+pub mod Rules
+pub mod Kept
+pub mod Exchanging
+pub mod Exchanged
+pub mod Passing
+pub mod Turning
+pub mod Telling
+pub mod Relayed

@@ -1,0 +1,9 @@
+pub mod Network
+pub mod Request
+pub mod Runs
+pub mod Laws
+pub mod Drivers
+pub mod Exchange
+pub mod Slots
+pub mod Relaying
+pub mod Ringing
