@@ -1,8 +1,10 @@
 // Reads a sheet from standard input, and says what it describes or which fault it has.
+mod deals;
 mod describe;
 mod fault;
 mod input;
 
+use deals::describe_deals;
 use describe::describe;
 use fault::Fault;
 use fault::FaultFromIo;
@@ -15,7 +17,8 @@ use std::io;
 fn run(rt: &LibcRuntime, heap: Global) -> Result<(), Fault> {
     let bytes = sheet_bytes(rt, heap)?;
     let nest = read_sheet(heap, bytes.as_slice())?;
-    Ok(describe(rt, &nest)?)
+    describe(rt, &nest)?;
+    Ok(describe_deals(rt, &nest)?)
 }
 
 fn main(rt: LibcRuntime) -> io::Result<()> {

@@ -1,21 +1,21 @@
 -- Where arrays begin, and the places behind that. Assumes nothing.
 use Prim.Native.Nat.{ℕ, zero, suc, _+_, _-_, _*_, _<_, _≤_}
 use mathlib.Core.Path.{_≡_, refl, sym, ap, subst, _∙_}
-use mathlib.Core.Bool.{true, _&&_}
+use mathlib.Core.Bool.{true}
 use mathlib.Core.List.{List, [], _∷_}
 use mathlib.Core.Logic.{_≢_, ⊎-elim}
 use native.Mathlib.Nat.{add-assoc, add-zero}
 use native.Mathlib.Numerals.{add-one}
 use native.Mathlib.Omega.{arith}
-use lib.Dec.{leb}
 use lib.ListN.{length, getD, set}
 use lib.Seq.{getD-set-same, getD-set-other}
 use Rattle.std.proofs.shelf.Bits.{mul-le}
-use Rattle.std.proofs.shelf.Tests.{and-parts, leb-true, cases-order}
+use Rattle.std.proofs.shelf.Tests.{and-parts, cases-order}
 use Rattle.nest.specs.declared.terms.Grid.{Grid}
 use Rattle.nest.specs.declared.terms.Array.{Array}
 use Rattle.nest.specs.Terms.{Said, nowhere}
-use Rattle.nest.specs.Sound.{between, each, gridKept, arrayKept, statementKept, nestKept, mapKept}
+use Rattle.nest.specs.Sound.{each, arrayKept, nestKept}
+use Rattle.nest.proofs.Keeps.{array-parts, nest-parts}
 use Rattle.layout.specs.Places.{sizeOf, total, IsElement, placeOf, startOf, arrayAt, Small}
 
 -- what IsElement says, by index
@@ -57,30 +57,16 @@ start-small [] s t = omega arith
 start-small (a ∷ more) s zero = omega arith
 start-small (a ∷ more) s (suc t) = omega (arith, size-small (a ∷ more) s 0, start-small more (λ k. s (suc k)) t)
 
-array-small : (a : Array) → arrayKept a ≡ true → (a .rows ≤ 32) × (a .columns ≤ 32)
-array-small a k =
-    let p = and-parts (between 1 32 (a .rows) && between 1 32 (a .columns) && mapKept (a .«row_map»)) (mapKept (a .«column_map»)) k in
-    let q = and-parts (between 1 32 (a .rows) && between 1 32 (a .columns)) (mapKept (a .«row_map»)) (p .0) in
-    let r = and-parts (between 1 32 (a .rows)) (between 1 32 (a .columns)) (q .0) in (
-      leb-true (a .rows) 32 (and-parts (leb 1 (a .rows)) (leb (a .rows) 32) (r .0) .1),
-      leb-true (a .columns) 32 (and-parts (leb 1 (a .columns)) (leb (a .columns) 32) (r .1) .1),
-    )
-
 pub each-small : (arrays : List Array) → each arrayKept arrays ≡ true → Small arrays
 each-small [] k t = (omega arith, omega arith)
-each-small (a ∷ more) k zero = array-small a (and-parts (arrayKept a) (each arrayKept more) k .0)
+each-small (a ∷ more) k zero = let p = array-parts a (and-parts (arrayKept a) (each arrayKept more) k .0) in (p .rows .1, p .columns .1)
 each-small (a ∷ more) k (suc t) = each-small more (and-parts (arrayKept a) (each arrayKept more) k .1) t
 
 -- the arrays of a nest are few and small
 pub kept-small : (g : Grid) (arrays : List Array) (sweeps : ℕ) (statements : List Said) → nestKept g arrays sweeps statements ≡ true → (length arrays ≤ 4) × Small arrays
 kept-small g arrays sweeps statements k =
-    let front = gridKept g && between 1 4 (length arrays) in
-    let p = and-parts (front && each arrayKept arrays && leb sweeps 1000 && between 1 8 (length statements)) (each (statementKept arrays) statements) k in
-    let q = and-parts (front && each arrayKept arrays && leb sweeps 1000) (between 1 8 (length statements)) (p .0) in
-    let r = and-parts (front && each arrayKept arrays) (leb sweeps 1000) (q .0) in
-    let s = and-parts front (each arrayKept arrays) (r .0) in
-    let t = and-parts (gridKept g) (between 1 4 (length arrays)) (s .0) in
-    (leb-true (length arrays) 4 (and-parts (leb 1 (length arrays)) (leb (length arrays) 4) (t .1) .1), each-small arrays (s .1))
+    let p = nest-parts g arrays sweeps statements k in
+    (p .some-arrays .1, each-small arrays (p .each-array))
 
 -- the starts so far
 abbrev pub Begun : List Array → List ℕ → ℕ → Type 0

@@ -1,0 +1,9 @@
+pub mod Meaning
+pub mod Answer
+pub mod Rules
+pub mod MakeLaws
+pub mod Runs
+pub mod Listed
+pub mod TableDeal
+pub mod Laws
+pub mod Worked
