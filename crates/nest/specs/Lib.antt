@@ -3,3 +3,4 @@ pub mod Faults
 pub mod Views
 pub mod Sound
 pub mod Nests
+pub mod Inside

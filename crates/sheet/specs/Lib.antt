@@ -5,3 +5,4 @@ pub mod Answered
 pub mod Fields
 pub mod Heads
 pub mod Parted
+pub mod SheetLaws

@@ -1,10 +1,15 @@
 // Reads a sheet.
 ghost use mathlib.Core.Path.{_≡_};
 ghost use mathlib.Core.Bool.{false};
+ghost use Prim.Native.Nat.{ℕ};
 ghost use Rattle.std.specs.Of.Vec.{vec-items};
+ghost use Rattle.std.specs.Vec.{made, refused};
 ghost use Rattle.tokens.specs.Views.{before};
 ghost use Rattle.sheet.specs.Answered.{lost, sheetAnswer, sheetVerdict};
 ghost use Rattle.sheet.specs.Lines.{linesOf, verdictOn};
+ghost use Rattle.sheet.specs.SheetLaws.{WholeLines, FirstFault};
+ghost use Rattle.nest.specs.Faults.{sheetTold};
+ghost use Rattle.nest.specs.Inside.{Stays-inside};
 ghost use Rattle.nest.specs.Views.{saidAll};
 ghost use Rattle.sheet.specs.Parted.{parted};
 ghost use Rattle.nest.specs.Nests.{shown};
@@ -50,7 +55,10 @@ fn parts_of(heap: Global, cursor: &mut Cursor) -> Result<Parts, SheetFault>
 
 /// Reads a sheet: the nest that it describes, or its first fault.
 pub fn read_sheet(heap: Global, bytes: &[u8]) -> Result<Nest, SheetFault>
-    ensures { λ r. ⌜ (lost r ≡ false → sheetVerdict shown r ≡ verdictOn (now (bytes .entry))) ⌝ }
+    ensures answer { λ r. ⌜ (lost r ≡ false → sheetVerdict shown r ≡ verdictOn (now (bytes .entry))) ⌝ }
+    ensures inside { λ r. ⌜ made r (λ nest. Stays-inside (shown nest)) ⌝ }
+    ensures lines { λ r. ⌜ made r (λ _. (n : ℕ) × WholeLines n (now (bytes .entry))) ⌝ }
+    ensures first_fault { λ r. ⌜ (lost r ≡ false → refused r (λ f. FirstFault (now (bytes .entry)) (sheetTold f .number) (sheetTold f .line) (sheetTold f .byte))) ⌝ }
 {
     let mut cursor = Cursor::new(bytes);
     let Parts {
