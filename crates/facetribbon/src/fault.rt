@@ -1,7 +1,10 @@
 // What can keep the program from its answer.
 ghost use mathlib.Core.Path.{_≡_};
-ghost use Rattle.facetribbon.specs.declared.fault.Fault.the-variants.{Sheet, Io};
+ghost use Rattle.nest.specs.declared.fault.SheetFault.the-variants.{NoMemory};
+ghost use Rattle.facetribbon.specs.declared.fault.Fault.the-variants.{Sheet, Run, Io};
 use nest::fault::SheetFault;
+use sequential::refusal::RunRefusal;
+use std::alloc::AllocError;
 use std::alloc::Global;
 use std::io;
 
@@ -9,6 +12,7 @@ use std::io;
 #[derive(Drop)]
 pub(crate) enum Fault {
     Sheet(SheetFault),
+    Run(RunRefusal),
     Io(io::Error),
 }
 
@@ -17,6 +21,22 @@ pub(crate) impl From<SheetFault> for Fault as FaultFromSheet {
 
     fn from(e: SheetFault) -> Fault {
         Fault::Sheet(e)
+    }
+}
+
+pub(crate) impl From<RunRefusal> for Fault as FaultFromRun {
+    ghost converts = { λ e r. r ≡ Run e };
+
+    fn from(e: RunRefusal) -> Fault {
+        Fault::Run(e)
+    }
+}
+
+pub(crate) impl From<AllocError> for Fault as FaultFromAlloc {
+    ghost converts = { λ _ r. r ≡ Sheet NoMemory };
+
+    fn from(_e: AllocError) -> Fault {
+        Fault::Sheet(SheetFault::NoMemory)
     }
 }
 
@@ -36,6 +56,10 @@ impl Fault {
             Fault::Sheet(fault) => {
                 let line = fault.told().line_of(heap)?;
                 println!(rt, "{line}")
+            }
+            Fault::Run(refusal) => {
+                let number = refusal.number();
+                println!(rt, "fault={number},0,0")
             }
             Fault::Io(e) => Err(e),
         }

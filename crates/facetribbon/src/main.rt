@@ -3,6 +3,7 @@ mod deals;
 mod describe;
 mod fault;
 mod input;
+mod running;
 
 use deals::describe_deals;
 use describe::describe;
@@ -10,6 +11,7 @@ use fault::Fault;
 use fault::FaultFromIo;
 use fault::FaultFromSheet;
 use input::sheet_bytes;
+use running::run_in_sequence;
 use sheet::reader::read_sheet;
 use std::alloc::Global;
 use std::io;
@@ -18,7 +20,8 @@ fn run(rt: &LibcRuntime, heap: Global) -> Result<(), Fault> {
     let bytes = sheet_bytes(rt, heap)?;
     let nest = read_sheet(heap, bytes.as_slice())?;
     describe(rt, &nest)?;
-    Ok(describe_deals(rt, &nest)?)
+    describe_deals(rt, &nest)?;
+    run_in_sequence(rt, heap, &nest)
 }
 
 fn main(rt: LibcRuntime) -> io::Result<()> {

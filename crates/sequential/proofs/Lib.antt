@@ -1,0 +1,10 @@
+pub mod Kept
+pub mod TermSums
+pub mod Turns
+pub mod Sweeps
+pub mod Lists
+pub mod Targets
+pub mod Passing
+pub mod Fusion
+pub mod ModeLaws
+pub mod SampleRuns
