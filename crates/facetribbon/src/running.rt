@@ -36,7 +36,13 @@ fn print_element(rt: &LibcRuntime, values: &[i32], place: Option<usize>) -> io::
     print!(rt, "{value}")
 }
 
-fn print_array(rt: &LibcRuntime, layout: &Layout, t: usize, array: &Array, values: &[i32]) -> io::Result<()> {
+fn print_array(
+    rt: &LibcRuntime,
+    layout: &Layout,
+    t: usize,
+    array: &Array,
+    values: &[i32],
+) -> io::Result<()> {
     let number = t.saturating_add(1);
     print!(rt, "array{number}=")?;
     for x in 1..array.rows.saturating_add(1) {
@@ -57,7 +63,12 @@ pub(crate) fn run_in_sequence(rt: &LibcRuntime, heap: Global, nest: &Nest) -> Re
     let mut values = start_values(heap, total)?;
     let mut held = vec![in heap; 0i32; total]?;
     let coefficients: [i32; 8] = [0, 1, 2, 3, 4, 5, 6, 7];
-    sequential(nest, &coefficients, values.as_mut_slice(), held.as_mut_slice())?;
+    sequential(
+        nest,
+        &coefficients,
+        values.as_mut_slice(),
+        held.as_mut_slice(),
+    )?;
     for (t, array) in nest.arrays().iter().enumerate() {
         print_array(rt, &layout, t, array, values.as_slice())?;
     }
