@@ -1,10 +1,3 @@
-pub mod RingRows
-pub mod BeltRows
 pub mod CallRuns
-pub mod Crowds
-pub mod Gaps
-pub mod Lines
 pub mod Mails
-pub mod Places
 pub mod Steps
-pub mod Turns

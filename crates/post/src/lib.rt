@@ -3,17 +3,11 @@
 //!
 //! - `kinds`: number kinds, and the two that are built in
 //! - `service`, `answers`: the interface of a post and what its calls answer
-//! - `lanes`, `belt`: two makes of post
 //! - `calls`, `terms`: what stands on the interface alone
+//! - `sizes`: the board count and the depth of a post that is made from a buffer
 pub mod answers;
-pub mod belt;
 pub mod calls;
-mod heads;
 pub mod kinds;
-pub mod lanes;
-mod line;
-mod rings;
 pub mod service;
-mod sizes;
-pub mod slots;
+pub mod sizes;
 pub mod terms;

@@ -1,7 +1,7 @@
 // What the run of a statement means, in the words of its iterations.
 ghost use mathlib.Core.Path.{_≡_};
 ghost use mathlib.Core.List.{[], _∷_};
-ghost use lib.ListN.{length};
+ghost use lib.ListN.{length, getD};
 ghost use Rattle.nest.specs.Nests.{shown};
 ghost use Rattle.nest.specs.Terms.{Said};
 ghost use Rattle.sequential.specs.Laws.{In, Targets-apart, Modes-mean};
@@ -20,13 +20,13 @@ pub fn statements_keep_their_meaning<V>(nest: &Nest) -> usize
     nest.statements().len()
 }
 
-/// The elements of the sample nest after its run, from 11, 22, 33, 44, 55, 66.
-pub fn sample_after(mode: Mode) -> [usize; 6]
-    ensures value { λ r. ⌜ r ≡ sampleAfter mode (11 ∷ 22 ∷ 33 ∷ 44 ∷ 55 ∷ 66 ∷ []) ⌝ }
+/// The last element of the sample nest after its run, from 11, 22, 33, 44, 55, 66.
+pub fn last_of_sample(mode: Mode) -> usize
+    ensures value { λ r. ⌜ r ≡ getD (sampleAfter mode (11 ∷ 22 ∷ 33 ∷ 44 ∷ 55 ∷ 66 ∷ [])) 5 0 ⌝ }
     ensures cases { λ _. ⌜ Sample-runs ⌝ }
 {
     match mode {
-        Mode::All => [11, 11, 22, 33, 44, 55],
-        Mode::Seq => [11, 11, 11, 11, 11, 11],
+        Mode::All => 55,
+        Mode::Seq => 11,
     }
 }

@@ -1,9 +1,7 @@
 // Statements in order.
 ghost use mathlib.Core.Path.{_≡_};
-ghost use mathlib.Core.Bool.{true};
 ghost use mathlib.Core.List.{map};
 ghost use lib.ListN.{length};
-ghost use Rattle.nest.specs.Sound.{each, statementKept};
 ghost use Rattle.nest.specs.Views.{said};
 ghost use Rattle.sequential.specs.Run.{settingOf, buffersOf, afterStatement, afterSweep};
 ghost use Rattle.sequential.specs.Ready.{Ready, AllReady};

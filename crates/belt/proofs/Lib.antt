@@ -1,0 +1,4 @@
+pub mod BeltRows
+pub mod Crowds
+pub mod Gaps
+pub mod Lines

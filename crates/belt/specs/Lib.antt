@@ -1,0 +1,2 @@
+pub mod Belt
+pub mod Tidy

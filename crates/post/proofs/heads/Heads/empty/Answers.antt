@@ -1,6 +1,0 @@
-use mathlib.Core.Path.{refl}
-use Rattle.post.proofs.RingRows.{within-empty}
-use Rattle.post.proofs.heads.Heads.empty.Needs as need
-
-pub ghost-result : need.ghost-result
-ghost-result c = (c .pre .0, (refl, (within-empty (c .args .depth) 64, (c .pre .1, tt))))
