@@ -1,0 +1,9 @@
+pub mod Sums
+pub mod Cells
+pub mod SectionPlaces
+pub mod NestRoom
+pub mod MapsFit
+pub mod PartStarts
+pub mod ElementPlaces
+pub mod Carrying
+pub mod Exchanges

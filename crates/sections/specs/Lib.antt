@@ -1,0 +1,6 @@
+pub mod Sections
+pub mod SectionLaws
+pub mod Starts
+pub mod Carry
+pub mod Refusals
+pub mod Exchange
