@@ -77,17 +77,49 @@ def bits(x):
     return "nan" if x != x else "%x" % struct.unpack("<Q", struct.pack("<d", x))[0]
 
 
+def owners(word, boards, length):
+    """Deals the positions of a dimension out by hand."""
+    if word == "one":
+        return [0] * length
+    if word == "block":
+        width = next(b for b in range(1, 33) if b * boards >= length)
+    else:
+        width = int(word.split(":")[1]) if ":" in word else 1
+    row, board, left = [], 0, 0
+    for _ in range(length):
+        if left == width:
+            board, left = (board + 1) % boards, 0
+        row.append(board)
+        left += 1
+    return row
+
+
+def sections(text, values):
+    """The elements board by board, array by array, each board's rows and columns in order."""
+    lines = text.split("\n")
+    q, s = map(int, fields(lines[0]))
+    arrays, start = [], 0
+    for line in lines[2:2 + int(fields(lines[1])[0])]:
+        r, c, by_rows, by_columns = fields(line)
+        arrays.append((start, int(c), owners(by_rows, q, int(r)), owners(by_columns, s, int(c))))
+        start += int(r) * int(c)
+    return [values[start + x * c + y] for p in range(q * s) for start, c, rows, columns in arrays
+            for x in range(len(rows)) if rows[x] == p % q for y in range(c) if columns[y] == p // q]
+
+
 def answer(name, text):
     whole, held = run(text, integer_start, INTEGERS, lambda a, b: wrap(a + b), lambda a, b: wrap(a * b), 0)
     floats, kept = run(text, float_start, FLOATS, lambda a, b: a + b, lambda a, b: a * b, 0.0)
     untouched = integer_start(len(whole))
     return [name, "  integers refused=false", "  arrays " + " ".join(map(str, whole)), "  held " + " ".join(map(str, held)),
             "  floats refused=false", "  arrays " + " ".join(map(bits, floats)), "  held " + " ".join(map(bits, kept)),
-            "  refused true true true", "  untouched " + " ".join(map(str, untouched))]
+            "  refused true true true", "  untouched " + " ".join(map(str, untouched)),
+            "  gathered back=true refusals 7 8", "  sections " + " ".join(map(str, sections(text, untouched)))]
 
 
-def sheet(arrays, sweeps, statements):
-    lines = ["grid=2,1", "arrays=%d" % len(arrays)] + ["array=%s,block,one" % a for a in arrays] + ["sweeps=%d" % sweeps, "stmts=%d" % len(statements)]
+def sheet(arrays, sweeps, statements, grid="2,1", maps=("block,one",)):
+    words = [maps[k % len(maps)] for k in range(len(arrays))]
+    lines = ["grid=" + grid, "arrays=%d" % len(arrays)] + ["array=%s,%s" % pair for pair in zip(arrays, words)] + ["sweeps=%d" % sweeps, "stmts=%d" % len(statements)]
     for head, put, base, reads in statements:
         lines += ["stmt=" + head, "put=" + put, "base=%d" % base, "reads=%d" % len(reads)] + ["read=" + r for r in reads]
     return "\n".join(lines) + "\n"
@@ -109,13 +141,21 @@ def cases():
     yield "offsets", sheet(["8,8"], 2, [("all,1,2,1,2", "1,4,-3,3,2", 5, ["3,1,i,4,-2,j,3,-2"]), ("seq,7,8,1,1", "1,1,0,4,-3", 2, ["1,1,i,1,-6,j,2,6"])])
 
 
+def dealt_cases():
+    still = [("all,1,1,1,1", "1,1,0,1,0", 1, [])]
+    yield "deal-blocks", sheet(["7,5", "4,9"], 1, still, "2,3", ("block,block",))
+    yield "deal-cyclic", sheet(["7,5", "4,9", "1,1"], 1, still, "4,2", ("cyclic,cyclic:2", "cyclic:3,block"))
+    yield "deal-one", sheet(["3,8", "8,3"], 1, still, "1,8", ("one,cyclic", "block,one"))
+    yield "deal-large", sheet(["32,2", "2,32"], 1, still, "8,1", ("cyclic:5,cyclic:32",))
+
+
 def main():
     crate = os.path.join(os.path.dirname(os.path.abspath(__file__)), "..", "crates", "cases_run")
     data = os.path.join(crate, "data")
     shutil.rmtree(data, ignore_errors=True)
     os.makedirs(data)
     names, lines = [], []
-    for name, text in cases():
+    for name, text in [*cases(), *dealt_cases()]:
         with open(os.path.join(data, name), "w") as f:
             f.write(text)
         names.append(name)

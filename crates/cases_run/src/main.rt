@@ -1,5 +1,9 @@
 // Runs each sheet that its arguments name in sequence, on integers that wrap and on floats with all their corners,
-// and prints every element and every held value.
+// and prints every element and every held value. Also scatters its elements over the boards and gathers them back.
+mod dealt;
+
+use dealt::refusals;
+use dealt::scattered;
 use layout::table::Layout;
 use nest::nest::Nest;
 use post::kinds::Floats;
@@ -101,6 +105,16 @@ fn run_refused(rt: &LibcRuntime, nest: &Nest) -> Result<(), AnyError> {
     Ok(())
 }
 
+fn run_dealt(rt: &LibcRuntime, nest: &Nest) -> Result<(), AnyError> {
+    let total = Layout::new(nest).total();
+    let values = integers(rt.alloc(), total)?;
+    let (parts, back) = scattered(rt, nest, values.as_slice())?;
+    let (by_maps, by_length) = refusals(rt, nest, values.as_slice())?;
+    println!(rt, "  gathered back={back} refusals {by_maps} {by_length}")?;
+    print_integers(rt, "sections", parts.as_slice())?;
+    Ok(())
+}
+
 fn run(rt: &LibcRuntime) -> Result<(), AnyError> {
     for name in env::args(rt)?.skip(1) {
         let bytes = fs::read(rt, name.as_str())?;
@@ -109,6 +123,7 @@ fn run(rt: &LibcRuntime) -> Result<(), AnyError> {
             run_integers(rt, &nest)?;
             run_floats(rt, &nest)?;
             run_refused(rt, &nest)?;
+            run_dealt(rt, &nest)?;
         }
     }
     Ok(())
