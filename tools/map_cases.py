@@ -8,15 +8,15 @@ import os
 MASK = 0xFFFFFFFF
 
 
-def owners(make, width, boards, length):
-    """Deals positions out by hand, one after the other."""
-    row, board, left = [], 0, 0
-    if make == "block":
-        width = next(b for b in range(1, 33) if b * boards >= length)
-    elif make == "cyclic":
-        width = 1
-    elif make == "one":
+def owners(word, boards, length):
+    """Deals the positions of a dimension out by hand, one after the other."""
+    if word == "one":
         return [0] * length
+    if word == "block":
+        width = next(b for b in range(1, 33) if b * boards >= length)
+    else:
+        width = int(word.split(":")[1]) if ":" in word else 1
+    row, board, left = [], 0, 0
     for _ in range(length):
         if left == width:
             board, left = (board + 1) % boards, 0
@@ -29,13 +29,14 @@ def mixed(total, a, b):
     return (total * 31 + a * 7 + b) & MASK
 
 
-def sums(make, width, boards):
+def sums(word, boards):
     places = positions = counts = refused = 0
+    width = int(word.split(":")[1]) if ":" in word else 1
     for length in range(34):
-        if not (1 <= boards <= 8 and 1 <= length <= 32 and (width is None or 1 <= width <= 32)):
+        if not (1 <= boards <= 8 and 1 <= length <= 32 and 1 <= width <= 32):
             refused += 1
             continue
-        row = owners(make, width, boards, length)
+        row = owners(word, boards, length)
         for x in range(34):
             if 1 <= x <= length:
                 places = mixed(places, row[x - 1], row[:x - 1].count(row[x - 1]))
@@ -60,11 +61,11 @@ def sums(make, width, boards):
 
 def main():
     crate = os.path.join(os.path.dirname(os.path.abspath(__file__)), "..", "crates", "cases_maps")
-    makes = [("one", None), ("block", None), ("cyclic", None)] + [("cyclic:%d" % k, k) for k in (0, 1, 2, 3, 5, 32, 33)]
+    makes = ["one", "block", "cyclic"] + ["cyclic:%d" % k for k in (0, 1, 2, 3, 5, 32, 33)]
     with open(os.path.join(crate, "stdout"), "w") as f:
-        for name, width in makes:
+        for word in makes:
             for boards in range(10):
-                f.write("%s %d: %d %d %d %d\n" % (name, boards, *sums(name if width is None else "cyclic:k", width, boards)))
+                f.write("%s %d: %d %d %d %d\n" % (word, boards, *sums(word, boards)))
 
 
 if __name__ == "__main__":

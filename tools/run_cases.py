@@ -10,6 +10,8 @@ import os
 import shutil
 import struct
 
+from map_cases import owners
+
 INTEGERS = [0, 1, -1, 65537, 2**31 - 1, -2**31, 7, 1000003]
 FLOATS = [0.0, 1.0, -1.0, 0.1, 1e308, float("inf"), float("nan"), -0.0]
 
@@ -75,23 +77,6 @@ def float_start(total):
 
 def bits(x):
     return "nan" if x != x else "%x" % struct.unpack("<Q", struct.pack("<d", x))[0]
-
-
-def owners(word, boards, length):
-    """Deals the positions of a dimension out by hand."""
-    if word == "one":
-        return [0] * length
-    if word == "block":
-        width = next(b for b in range(1, 33) if b * boards >= length)
-    else:
-        width = int(word.split(":")[1]) if ":" in word else 1
-    row, board, left = [], 0, 0
-    for _ in range(length):
-        if left == width:
-            board, left = (board + 1) % boards, 0
-        row.append(board)
-        left += 1
-    return row
 
 
 def sections(text, values):
