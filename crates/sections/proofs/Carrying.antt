@@ -1,8 +1,8 @@
 -- One element more, carried to its place.
 use Prim.Native.Nat.{ℕ, _+_, _<_, _≤_}
-use mathlib.Core.Path.{_≡_, refl, sym, ap, subst, _∙_}
+use mathlib.Core.Path.{_≡_, sym, ap, subst, _∙_}
 use mathlib.Core.List.{List}
-use mathlib.Core.Logic.{_≢_, ⊎-elim}
+use mathlib.Core.Logic.{⊎-elim}
 use native.Mathlib.Omega.{arith}
 use lib.ListN.{length, getD, set}
 use lib.Seq.{getD-set-same, getD-set-other}
@@ -13,7 +13,6 @@ use Rattle.layout.proofs.PlaceLaws.{place-below, place-alone}
 use Rattle.sections.specs.declared.way.Way.{Way}
 use Rattle.sections.specs.declared.way.Way.the-variants.{IntoSections, IntoArrays}
 use Rattle.sections.specs.Sections.{Fits, sectionOf}
-use Rattle.sections.specs.SectionLaws.{Section-below, Section-alone}
 use Rattle.sections.specs.Carry.{Course, readOf, writtenOf, source, target, Right, Row-right, Array-right, Stays-right}
 use Rattle.sections.proofs.SectionPlaces.{Each-sound, section-below, section-alone}
 

@@ -1,10 +1,10 @@
 -- One array dealt out over a grid: its elements, and the places of each board's part.
-use Prim.Native.Nat.{ℕ, zero, suc, _+_, _*_, _/_, _%_, _<_, _≤_}
-use mathlib.Core.Path.{_≡_, refl, sym, ap, ap₂, subst, _∙_}
+use Prim.Native.Nat.{ℕ, zero, suc, _+_, _*_, _/_, _%_, _<_}
+use mathlib.Core.Path.{_≡_, sym, ap, ap₂, _∙_}
 use native.Mathlib.Nat.{mul-comm, mul-zero, div-add-mod'}
 use native.Mathlib.Omega.{arith}
 use Rattle.std.proofs.shelf.Bits.{mul-add-lt, div-mul-add, mod-mul-add, div-below, mod-below}
-use Rattle.owner_map.specs.Meaning.{Deal, Sound, Position, owner, rank, place, share}
+use Rattle.owner_map.specs.Meaning.{Deal, Sound, Position, owner, rank, share}
 use Rattle.owner_map.proofs.Deals.{place-undone, position-undone, place-determines, rank-reached, some-below-share}
 
 -- ranks are below the share of their owner

@@ -1,17 +1,17 @@
 -- What the maps of an element's array answer, and the place that follows.
-use Prim.Native.Nat.{ℕ, _+_, _*_, _<_, _≤_}
-use mathlib.Core.Path.{_≡_, refl, sym, ap, ap₂, subst, _∙_}
+use Prim.Native.Nat.{ℕ, _+_, _*_, _<_}
+use mathlib.Core.Path.{_≡_, sym, ap, ap₂, subst, _∙_}
 use mathlib.Core.List.{List, map}
 use native.Mathlib.Omega.{arith}
 use lib.ListN.{length, getD}
 use Rattle.std.proofs.shelf.Lists.{length-map}
 use Rattle.nest.specs.declared.terms.Array.{Array}
 use Rattle.nest.specs.declared.terms.Grid.{Grid}
-use Rattle.layout.specs.Places.{total, IsElement, arrayAt}
+use Rattle.layout.specs.Places.{IsElement}
 use Rattle.layout.proofs.Starts.{element-here}
 use Rattle.owner_map.specs.Meaning.{Deal, Sound, Position, owner, rank, share}
-use Rattle.sections.specs.Sections.{Deals, Fits, dealt, rowsOf, columnsOf, boardOf, partAt, cellOf, sectionOf}
-use Rattle.sections.specs.Starts.{Begun, Ready}
+use Rattle.sections.specs.Sections.{Deals, Fits, dealt, rowsOf, columnsOf, boardOf, partAt, sectionOf}
+use Rattle.sections.specs.Starts.{Begun}
 use Rattle.sections.proofs.MapsFit.{meant, maps-sound}
 use Rattle.sections.proofs.NestRoom.{Room}
 use Rattle.sections.proofs.SectionPlaces.{row-on, column-on, on-board, section-below}

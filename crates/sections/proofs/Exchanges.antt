@@ -1,8 +1,8 @@
 -- Scatter and gather, from the walk, and how they undo each other.
-use Prim.Native.Nat.{ℕ, _<_}
-use mathlib.Core.Path.{_≡_, refl, sym, ap, subst, _∙_}
+use Prim.Native.Nat.{ℕ}
+use mathlib.Core.Path.{_≡_, refl, sym, ap, _∙_}
 use mathlib.Core.List.{List}
-use mathlib.Core.Logic.{_⊎_, inl, inr, ⊎-elim}
+use mathlib.Core.Logic.{inl, inr, ⊎-elim}
 use native.Mathlib.Omega.{arith}
 use lib.ListN.{length, getD}
 use Rattle.std.specs.Vec.{made}
@@ -10,7 +10,7 @@ use Rattle.std.specs.declared.result.Result.{Result}
 use Rattle.std.specs.declared.result.Result.the-variants.{Ok, Err}
 use Rattle.std.proofs.shelf.Lists.{same-lists}
 use Rattle.nest.specs.Terms.{Sheet}
-use Rattle.layout.specs.Places.{total, IsElement, placeOf}
+use Rattle.layout.specs.Places.{total}
 use Rattle.layout.proofs.PlaceLaws.{place-taken}
 use Rattle.owner_map.specs.Meaning.{Deal}
 use Rattle.sections.specs.declared.refusal.LayoutRefusal.{LayoutRefusal}
@@ -18,7 +18,7 @@ use Rattle.sections.specs.declared.way.Way.the-variants.{IntoSections, IntoArr
 use Rattle.sections.specs.Carry.{courseOf, All-right}
 use Rattle.sections.specs.Exchange.{Same-elements, Long, Due, Answered, Arrays-back, Sections-back}
 use Rattle.sections.specs.Refusals.{number}
-use Rattle.sections.specs.Sections.{Deals, Fits, dealt, sectionOf}
+use Rattle.sections.specs.Sections.{Deals, Fits, dealt}
 use Rattle.sections.proofs.SectionPlaces.{Each-sound, section-taken}
 
 module _ {T : Type 0} (sheet : Sheet) (rows columns : List Deal) (from to : List T) where

@@ -1,6 +1,7 @@
 pub mod Sums
 pub mod Cells
 pub mod SectionPlaces
+pub mod Orders
 pub mod NestRoom
 pub mod MapsFit
 pub mod PartStarts

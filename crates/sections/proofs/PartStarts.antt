@@ -1,6 +1,6 @@
 -- The table of starts, filled board by board and array by array.
 use Prim.Native.Nat.{ℕ, zero, suc, _+_, _*_, _/_, _%_, _<_, _≤_}
-use mathlib.Core.Path.{_≡_, refl, sym, ap, ap₂, subst, _∙_}
+use mathlib.Core.Path.{_≡_, sym, ap, ap₂, subst, _∙_}
 use mathlib.Core.List.{List, map}
 use mathlib.Core.Logic.{_≢_, ⊎-elim}
 use native.Mathlib.Nat.{mul-comm, zero-mul}
@@ -16,7 +16,7 @@ use Rattle.layout.specs.Places.{total}
 use Rattle.owner_map.specs.Meaning.{Deal, share, sum-over}
 use Rattle.owner_map.proofs.Deals.{sum-over-more}
 use Rattle.sections.specs.Sections.{Deals, Fits, dealt, partAt, partSize, partStart, sectionSize, sectionStart}
-use Rattle.sections.specs.Starts.{Begins, Begun}
+use Rattle.sections.specs.Starts.{Begins}
 use Rattle.sections.proofs.MapsFit.{meant}
 use Rattle.sections.proofs.SectionPlaces.{Each-sound, sections-total}
 use Rattle.sections.proofs.Sums.{sum-grows}

@@ -1,5 +1,5 @@
 -- Elements and places in the section buffer match one to one.
-use Prim.Native.Nat.{ℕ, zero, suc, _+_, _-_, _*_, _<_, _≤_}
+use Prim.Native.Nat.{ℕ, _+_, _-_, _*_, _<_}
 use mathlib.Core.Path.{_≡_, refl, sym, ap, ap₂, subst, _∙_}
 use mathlib.Core.List.{List, [], _∷_}
 use native.Mathlib.Omega.{arith}
@@ -32,10 +32,10 @@ total-sum [] = refl
 total-sum (a ∷ arrays) = sum-first (λ t. sizeOf (arrayAt (a ∷ arrays) t)) (length arrays) ∙ ap (λ n. sizeOf a + n) (total-sum arrays)
 
 module _ (grid : Grid) (arrays : List Array) (deals : Deals) (fit : Fits grid arrays deals) (sound : Each-sound deals) where
-  rows-sound : (t : ℕ) → t < length arrays → Sound (rowsOf deals t)
+  pub rows-sound : (t : ℕ) → t < length arrays → Sound (rowsOf deals t)
   rows-sound t h = sound .0 t (omega (arith, fit .0))
 
-  columns-sound : (t : ℕ) → t < length arrays → Sound (columnsOf deals t)
+  pub columns-sound : (t : ℕ) → t < length arrays → Sound (columnsOf deals t)
   columns-sound t h = sound .1 t (omega (arith, fit .1))
 
   -- rows and columns of an element are positions of the deals
@@ -63,7 +63,7 @@ module _ (grid : Grid) (arrays : List Array) (deals : Deals) (fit : Fits grid ar
           ∙ ap₂ (λ a b. a * b) (shares (rowsOf deals t) _ _ (rows-sound t h) (f .0 .0) (f .0 .1)) (shares (columnsOf deals t) _ _ (columns-sound t h) (f .1 .0) (f .1 .1))
 
   module _ (t x y : ℕ) (e : IsElement arrays t x y) where
-    here : t < length arrays
+    pub here : t < length arrays
     here = element-here arrays t x y e .0
 
     -- an element lies inside its board's part of its array

@@ -1,6 +1,6 @@
 -- Sums over all numbers below a bound, and numbers split by such sums.
 use Prim.Native.Nat.{ℕ, zero, suc, _+_, _-_, _*_, _/_, _%_, _<_, _≤_}
-use mathlib.Core.Path.{_≡_, refl, sym, ap, ap₂, subst, _∙_}
+use mathlib.Core.Path.{_≡_, refl, ap, ap₂, _∙_}
 use mathlib.Core.Logic.{⊎-elim}
 use native.Mathlib.Nat.{mul-comm, mul-suc, mul-zero, mul-add, add-mul}
 use native.Mathlib.Omega.{arith}

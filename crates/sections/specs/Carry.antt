@@ -1,6 +1,6 @@
 -- Elements carried from one buffer to the other, the walk half done.
 -- Only the private walk goes by these; what scatter and gather promise is in Exchange.
-use Prim.Native.Nat.{ℕ, _<_}
+use Prim.Native.Nat.{ℕ}
 use mathlib.Core.Path.{_≡_}
 use mathlib.Core.List.{List}
 use lib.ListN.{getD}

@@ -6,6 +6,7 @@ ghost use Rattle.std.specs.Vec.{made};
 ghost use Rattle.nest.specs.Nests.{shown};
 ghost use Rattle.sections.specs.Carry.{courseOf, All-right};
 ghost use Rattle.sections.specs.Exchange.{Same-elements, Answered, Arrays-back, Sections-back};
+ghost use Rattle.sections.specs.Order.{Place-is-index};
 ghost use Rattle.sections.specs.SectionLaws.{One-section-each};
 ghost use Rattle.sections.specs.Sections.{dealt};
 use super::fitting::maps_fit;
@@ -59,6 +60,7 @@ pub fn scatter<T: Copy, R: OwnerMap, C: OwnerMap>(
 ) -> Result<(), LayoutRefusal>
     ensures answer { λ r. ⌜ Answered (shown (now (nest .entry))) (dealt (map (R·OwnerMap .meaning) (now («row_maps» .entry))) (map (C·OwnerMap .meaning) (now («column_maps» .entry)))) (length (now (arrays .entry))) (length (now (sections .entry))) (Same-elements (shown (now (nest .entry))) (dealt (map (R·OwnerMap .meaning) (now («row_maps» .entry))) (map (C·OwnerMap .meaning) (now («column_maps» .entry)))) (now (arrays .entry)) (now (sections .exit))) (now (sections .exit) ≡ now (sections .entry)) r ⌝ }
     ensures matching { λ r. ⌜ made r (λ _. One-section-each ((shown (now (nest .entry))) .grid .rows) ((shown (now (nest .entry))) .arrays) (dealt (map (R·OwnerMap .meaning) (now («row_maps» .entry))) (map (C·OwnerMap .meaning) (now («column_maps» .entry))))) ⌝ }
+    ensures order { λ r. ⌜ made r (λ _. Place-is-index ((shown (now (nest .entry))) .grid) ((shown (now (nest .entry))) .arrays) (dealt (map (R·OwnerMap .meaning) (now («row_maps» .entry))) (map (C·OwnerMap .meaning) (now («column_maps» .entry))))) ⌝ }
     ensures undone { λ r. ⌜ made r (λ _. Arrays-back (shown (now (nest .entry))) (dealt (map (R·OwnerMap .meaning) (now («row_maps» .entry))) (map (C·OwnerMap .meaning) (now («column_maps» .entry)))) (now (arrays .entry)) (now (sections .exit))) ⌝ }
 {
     carry(

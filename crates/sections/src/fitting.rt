@@ -1,5 +1,4 @@
 // Whether maps fit a nest.
-ghost use mathlib.Core.Path.{_≡_};
 ghost use mathlib.Core.List.{map};
 ghost use Rattle.std.specs.Orderings.{When};
 ghost use Rattle.nest.specs.Nests.{shown};

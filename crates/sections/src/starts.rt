@@ -7,12 +7,13 @@ ghost use Rattle.sections.specs.Sections.{Fits, dealt};
 ghost use Rattle.sections.specs.Starts.{Begun};
 use super::asked::share_of;
 use nest::nest::Nest;
+use owner_map::MOST_BOARDS;
 use owner_map::OwnerMap;
 
 /// The most arrays of a nest.
 pub(crate) const MOST_ARRAYS: usize = 4;
 /// Room for every array on every board.
-pub(crate) const MOST_PARTS: usize = 32;
+pub(crate) const MOST_PARTS: usize = MOST_BOARDS * MOST_ARRAYS;
 
 /// Where each board's part of each array begins: that of array t on board p stands at p × MOST_ARRAYS + t.
 pub(crate) fn part_starts<R: OwnerMap, C: OwnerMap>(

@@ -1,10 +1,10 @@
 use mathlib.Core.List.{map}
-use mathlib.Core.Path.{_≡_, _∙_}
 use Rattle.nest.specs.Nests.{shown}
 use Rattle.nest.specs.Terms.{Sheet}
 use Rattle.sections.specs.Sections.{Deals, dealt}
 use Rattle.sections.proofs.MapsFit.{maps-sound}
 use Rattle.sections.proofs.Exchanges.{scattered, answered-like, made-from, arrays-back}
+use Rattle.sections.proofs.Orders.{place-is-index}
 use Rattle.sections.proofs.SectionPlaces.{one-section-each}
 use Rattle.sections.proofs.exchange.scatter.Needs as need
 
@@ -19,5 +19,6 @@ returns g c =
     record {
       answer = answered-like sheet deals _ _ _ _ _ moved (c .carry .result) (c .carry .ensures);
       matching = made-from sheet deals _ _ _ _ _ (λ fit long all. one-section-each (sheet .grid) (sheet .arrays) deals fit sound) (c .carry .result) (c .carry .ensures);
+      order = made-from sheet deals _ _ _ _ _ (λ fit long all. place-is-index (sheet .grid) (sheet .arrays) deals fit sound) (c .carry .result) (c .carry .ensures);
       undone = made-from sheet deals _ _ _ _ _ (λ fit long all. arrays-back sheet deals (c .args .arrays .now) (c .carry .last .to) (moved all) (long .0)) (c .carry .result) (c .carry .ensures);
     }

@@ -1,8 +1,6 @@
 use mathlib.Core.Path.{_≡_, sym}
-use mathlib.Core.List.{map}
 use native.Mathlib.Omega.{arith}
 use lib.ListN.{length}
-use Rattle.sections.specs.Sections.{dealt}
 use Rattle.sections.proofs.MapsFit.{fits-like, unfit-number, unfit-rows, unfit-columns, fits-more, fits-all}
 use Rattle.sections.proofs.fitting.maps_fit.Needs as need
 

@@ -1,4 +1,4 @@
-use Prim.Native.Nat.{ℕ, _+_, _*_, _<_, _≤_}
+use Prim.Native.Nat.{_+_, _*_, _<_, _≤_}
 use mathlib.Core.Path.{_≡_, refl, sym, ap, _∙_}
 use mathlib.Core.List.{map}
 use native.Mathlib.Omega.{arith}
@@ -6,7 +6,7 @@ use lib.ListN.{length, length-set}
 use Rattle.std.specs.Of.Vec.{vec-items}
 use Rattle.std.proofs.shelf.Lists.{length-map}
 use Rattle.nest.specs.Views.{saidAll}
-use Rattle.sections.specs.Sections.{Deals, Fits, dealt, partSize}
+use Rattle.sections.specs.Sections.{Deals, dealt}
 use Rattle.sections.proofs.MapsFit.{fits-like, maps-sound}
 use Rattle.sections.proofs.NestRoom.{kept-room}
 use Rattle.sections.proofs.PartStarts.{there, there-too, row-board, column-board, size-is, begun-more, begun-board, part-more, part-board, part-room}

@@ -1,5 +1,5 @@
 use mathlib.Core.List.{map}
-use mathlib.Core.Path.{_≡_, _∙_}
+use mathlib.Core.Path.{_∙_}
 use Rattle.nest.specs.Nests.{shown}
 use Rattle.nest.specs.Terms.{Sheet}
 use Rattle.sections.specs.Sections.{Deals, dealt}
