@@ -1,4 +1,6 @@
 //! A post over a lent slice of slots, in which the letters of all pairs lie in order of arrival.
+#![tactic(auto)]
+
 mod belt;
 mod line;
 mod slots;

@@ -1,4 +1,6 @@
 // Asks every map of every make, for 1 to 8 boards and 1 to 32 positions, and prints sums of the answers.
+#![tactic(auto)]
+
 use owner_map::{Make, OwnerMap, deal_out};
 
 /// Sums of answers, each weighted so that a swapped answer shows.

@@ -8,6 +8,8 @@
 //!   value
 //!
 //! KIND is `i32` or `f64`.
+#![tactic(auto)]
+
 mod numerals;
 mod script;
 mod table;

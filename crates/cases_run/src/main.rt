@@ -1,5 +1,7 @@
 // Runs each sheet that its arguments name in sequence, on integers that wrap and on floats with all their corners,
 // and prints every element and every held value. Also scatters its elements over the boards and gathers them back.
+#![tactic(auto)]
+
 mod dealt;
 
 use dealt::{refusals, scattered};

@@ -1,4 +1,6 @@
 // Reads each sheet that its arguments name, and prints what it says or its fault.
+#![tactic(auto)]
+
 mod written;
 
 use nest::fault::SheetFault;

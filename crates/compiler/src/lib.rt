@@ -10,6 +10,8 @@
 //! - `letters`, `depth`, `letter_totals`: the letters by pair, and the depth that the post must have
 //! - `copying`: a copy of a nest
 //! - `worked`: the totals of the sample nest
+#![tactic(auto)]
+
 mod access;
 mod boards;
 pub mod compile;

@@ -1,4 +1,6 @@
 // How the arrays of a nest are dealt out: a sheet's words turned into maps.
+#![tactic(auto)]
+
 pub mod dimension;
 pub mod maps;
 pub mod words;

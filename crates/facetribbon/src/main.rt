@@ -1,4 +1,6 @@
 // Reads a sheet from standard input, and says what it describes or which fault it has.
+#![tactic(auto)]
+
 mod deals;
 mod describe;
 mod fault;

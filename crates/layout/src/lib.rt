@@ -1,3 +1,5 @@
 // Where elements lie in buffers.
+#![tactic(auto)]
+
 pub mod places;
 pub mod table;

@@ -1,4 +1,6 @@
 // The nest that a sheet describes, and the faults that keep a sheet from being one.
+#![tactic(auto)]
+
 pub mod access;
 pub mod fault;
 pub mod memory;

@@ -1,4 +1,5 @@
 //! Boards that pass letters over bounded rows: what a request does, and what holds of every list of requests.
+#![tactic(auto)]
 
 pub mod answer;
 pub mod boards;

@@ -1,4 +1,6 @@
 //! Owner maps: which board owns each position of a dimension.
+#![tactic(auto)]
+
 mod laws;
 mod makes;
 mod questions;

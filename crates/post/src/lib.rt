@@ -5,6 +5,8 @@
 //! - `service`, `answers`: the interface of a post and what its calls answer
 //! - `calls`, `terms`: what stands on the interface alone
 //! - `sizes`: the board count and the depth of a post that is made from a buffer
+#![tactic(auto)]
+
 pub mod answers;
 pub mod calls;
 pub mod kinds;

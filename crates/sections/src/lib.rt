@@ -1,4 +1,6 @@
 //! Sections: what each board holds of the arrays, and the way between arrays and sections.
+#![tactic(auto)]
+
 mod asked;
 mod carry;
 mod dealt;

@@ -5,6 +5,8 @@
 //!   value, where its elements lie
 //! - `laws`: what FORALL and DO mean, and a worked sample
 //! - `iteration`, `work`: an iteration, and what is done in it
+#![tactic(auto)]
+
 pub mod iteration;
 pub mod laws;
 mod passes;

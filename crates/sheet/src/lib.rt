@@ -1,4 +1,6 @@
 // The reader that turns a sheet into a nest, or names its first fault.
+#![tactic(auto)]
+
 mod forms;
 mod lines;
 pub mod reader;

@@ -4,6 +4,8 @@
 //! - `belonging`: whether a place is one of the program's
 //! - `entering`: the first place of an order, of a sweep and of all sweeps
 //! - `moving`: the place after a place
+#![tactic(auto)]
+
 pub mod belonging;
 pub mod entering;
 pub mod moving;
