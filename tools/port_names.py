@@ -13,6 +13,7 @@ import re
 import sys
 
 SIGNATURE = re.compile(r"^\s*(?:(?:abbrev|unfoldable|pub|record|data|ruleset|syntax)\s+)*([A-Za-z][^\s(){}\[\],;.:\"]*)\s+:\s")
+HEAD = re.compile(r"^\s*(?:pub\s+)?(?:record|data)\s+([A-Z][^\s(){}\[\],;.:\"]*)")
 TOKEN = re.compile(r"[^\s(){}\[\],;.:\"`|]+")
 IMPORT = re.compile(r"use\s+([^\s{]+?)\.?\{([^}]*)\}")
 # Names that would fall together with another one, and what they become. A lemma named as a definition gets _lem.
@@ -63,7 +64,7 @@ def own_names(files):
         if not path.endswith(".antt"):
             continue
         for line in text.splitlines():
-            m = SIGNATURE.match(line)
+            m = HEAD.match(line) or SIGNATURE.match(line)
             if m and re.search(r":\s+goal\." + re.escape(m[1]) + r"(?![\w'-])", line):
                 made.add(m[1])
             elif m:

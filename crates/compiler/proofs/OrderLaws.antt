@@ -18,7 +18,7 @@ use Rattle.compiler.specs.Spans.{seat}
 use Rattle.compiler.specs.Orders.{tasks_of, i_kind, j_kind, task_order}
 use Rattle.compiler.specs.Cells.{cells_of, board_at, takes_part}
 use Rattle.compiler.specs.Deeds.{working, deed_of, deed_in}
-use Rattle.compiler.specs.Laws.{AllSound, SpansAreOwnedValues, PartsAreIterations, OwnersAreBoards, ShippedIsTaken, StepsWhateverTheMaps, Orders-cover-the-nest}
+use Rattle.compiler.specs.Laws.{AllSound, SpansAreOwnedValues, PartsAreIterations, OwnersAreBoards, ShippedIsTaken, StepsWhateverTheMaps, OrdersCoverTheNest}
 use Rattle.compiler.proofs.FilteredLists.{all_in, kept_by_like, kept_by_twice}
 use Rattle.compiler.proofs.SpanValues.{span_values_lem}
 use Rattle.compiler.proofs.TaskSpans.{TaskKept, reads_kept, tasks_kept, i_fits, j_fits, board_there}
@@ -124,7 +124,7 @@ module _ (n : Sheet) (deals : Deals) (kept : nest_kept n.grid n.arrays n.sweeps 
       steps_total_lem n others fit' sound' parts ∙ sym (steps_total_lem n deals fit sound parts)
 
 -- the orders of a nest that keeps its ranges cover it, under deals of maps that fit
-pub orders_cover : (n : Sheet) (deals : Deals) → nest_kept n.grid n.arrays n.sweeps n.statements ≡ true → Fits n.grid n.arrays deals → AllSound deals → Orders-cover-the-nest n deals
+pub orders_cover : (n : Sheet) (deals : Deals) → nest_kept n.grid n.arrays n.sweeps n.statements ≡ true → Fits n.grid n.arrays deals → AllSound deals → OrdersCoverTheNest n deals
 orders_cover n deals kept fit sound = record {
   spans = spans_owned n deals kept fit sound;
   parts = parts_covered n deals kept fit sound;

@@ -53,7 +53,7 @@ abbrev pub StepsWhateverTheMaps : Sheet → Deals → Type 0
 StepsWhateverTheMaps n deals = (others : Deals) → Fits n.grid n.arrays others → AllSound others → steps_of n others ≡ steps_of n deals
 
 -- all of these
-pub record Orders-cover-the-nest (n : Sheet) (deals : Deals) : Type 0 where
+pub record OrdersCoverTheNest (n : Sheet) (deals : Deals) : Type 0 where
   pub spans : SpansAreOwnedValues n deals
   pub parts : PartsAreIterations n deals
   pub owners : OwnersAreBoards n deals

@@ -5,7 +5,7 @@ ghost use Rattle.nest.specs.Nests.{shown};
 ghost use Rattle.sections.specs.Sections.{Fits, dealt};
 ghost use Rattle.compiler.specs.Answer.{Answered};
 ghost use Rattle.compiler.specs.Compiled.{program_of};
-ghost use Rattle.compiler.specs.Laws.{Orders-cover-the-nest};
+ghost use Rattle.compiler.specs.Laws.{OrdersCoverTheNest};
 ghost use Rattle.compiler.specs.Programs.{compiled};
 
 use crate::boards::board_programs;
@@ -63,7 +63,7 @@ pub fn compile<R: OwnerMap, C: OwnerMap>(
     column_maps: &[C],
 ) -> Result<Program, CompileRefusal>
     ensures answer { Answered (shown nest.now) (dealt (map R.OwnerMap.meaning row_maps.now) (map C.OwnerMap.meaning column_maps.now)) result }
-    ensures laws { OnOk result (Orders-cover-the-nest (shown nest.now) (dealt (map R.OwnerMap.meaning row_maps.now) (map C.OwnerMap.meaning column_maps.now))) }
+    ensures laws { OnOk result (OrdersCoverTheNest (shown nest.now) (dealt (map R.OwnerMap.meaning row_maps.now) (map C.OwnerMap.meaning column_maps.now))) }
 {
     if !maps_fit(nest, row_maps, column_maps) {
         return Err(CompileRefusal::MapsDiffer);

@@ -1,7 +1,7 @@
 -- Lists of requests put together, one request or one round at a time, and what a quiet round tells.
 use Rattle.std.proofs.Common.{◌≡◌, ℕ, zero, suc, ◌+◌, ◌≤◌, List, [], ◌∷◌, ◌++◌, sym, refl, ap, ◌∙◌, subst, inl, inr, arith}
 use Rattle.std.proofs.lemmas.Bool.{cases_eq}
-use Rattle.network.specs.Runs.{Asked, state_after, answers, tally, is_ran, is_ended, steps_run, Came-to, HasEnded, AllEnded, Names, NamesAll, in_turn}
+use Rattle.network.specs.Runs.{Asked, state_after, answers, tally, is_ran, is_ended, steps_run, CameTo, HasEnded, AllEnded, Names, NamesAll, in_turn}
 use Rattle.network.specs.declared.answer.Answer.{Answer}
 use Rattle.network.specs.declared.answer.Answer.TheVariants.{Ran, Waiting, Ended, Refused}
 
@@ -17,13 +17,13 @@ module _ {X : Type 0} (ask : Asked X) where
   tally_++ one [] ys s = omega arith
   tally_++ one (p ∷ xs) ys s = omega (arith, tally_++ one xs ys (ask s p).1)
 
-  pub came_to_none : (s : X) → Came-to ask s [] 0 0 s
+  pub came_to_none : (s : X) → CameTo ask s [] 0 0 s
   unfolding state_after answers tally
   came_to_none s = record { steps = refl; ends = refl; left_state = refl }
 
   -- one more request
-  pub came_to_more : (s t u : X) (requests : List ℕ) (ran ended p : ℕ) (a : Answer) → Came-to ask s requests ran ended t
-      → (a, u) ≡ ask t p → Came-to ask s (requests ++ p ∷ []) (ran + is_ran a) (ended + is_ended a) u
+  pub came_to_more : (s t u : X) (requests : List ℕ) (ran ended p : ℕ) (a : Answer) → CameTo ask s requests ran ended t
+      → (a, u) ≡ ask t p → CameTo ask s (requests ++ p ∷ []) (ran + is_ran a) (ended + is_ended a) u
   unfolding state_after answers tally
   came_to_more s t u requests ran ended p a c e =
       let e' : (a, u) ≡ ask (state_after ask s requests) p = rw c.left_state at e in

@@ -7,7 +7,7 @@ use Rattle.network.specs.Slots.{one_way, held_by}
 use Rattle.network.specs.Exchange.{partner, exchanging, exchange, exchange_state}
 use Rattle.network.specs.declared.pair.Phase.TheVariants.{Putting, Done}
 use Rattle.network.specs.declared.pair.Partner.{Partner}
-use Rattle.network.specs.Drivers.{Went-round}
+use Rattle.network.specs.Drivers.{WentRound}
 
 abbrev pub start : ℕ → ℕ → State ℕ Partner
 start first second = exchange_state (partner Putting first ∷ partner Putting second ∷ []) (None ∷ None ∷ [])
@@ -37,7 +37,7 @@ module _ (boards : List Partner) (letters : List (Option ℕ)) (first second : �
   completes = rw (b, l) (exchange_completes first second)
 
   pub both_exchanged : (boards' : List Partner) (letters' : List (Option ℕ)) (told : Bool)
-      → Went-round exchange 1 (exchange_state boards letters) (exchange_state boards' letters') told
+      → WentRound exchange 1 (exchange_state boards letters) (exchange_state boards' letters') told
       → ((get_or boards' 0 (partner Putting 0)).value ≡ second) × ((get_or boards' 1 (partner Putting 0)).value ≡ first)
   unfolding exchange held_by
   both_exchanged boards' letters' told went =

@@ -2,7 +2,7 @@
 use Rattle.std.proofs.Common.{◌≡◌, ℕ, ◌+◌, ◌≤◌, List, [], ◌∷◌, ◌++◌, refl, ap, ◌∙◌, subst, add-one, arith}
 use Rattle.network.specs.Network.{Network, State}
 use Rattle.network.specs.Request.{request}
-use Rattle.network.specs.Runs.{Asked, is_ran, is_ended, Came-to, in_turn}
+use Rattle.network.specs.Runs.{Asked, is_ran, is_ended, CameTo, in_turn}
 use Rattle.network.specs.declared.answer.Answer.{Answer}
 use Rattle.network.proofs.Asking.{came_to_none, came_to_more}
 
@@ -11,7 +11,7 @@ pub record Going {L S : Type 0} (net net' : Network L S) (depth depth' : ℕ) (l
   pub same_network : net' ≡ net
   pub same_depth : depth' ≡ depth
   pub same_lent : lent' ≡ lent
-  pub came : Came-to (request net depth) s asked ran ended t
+  pub came : CameTo (request net depth) s asked ran ended t
   pub fewer : ran + left' ≤ left
   pub few_ran : ran ≤ count
   pub few_ended : ended ≤ count
@@ -59,5 +59,5 @@ in_turn_more n = rw add-one refl
 
 -- What a list of requests came to, under another name of the list.
 pub came_as : {X : Type 0} {ask : Asked X} {s t : X} {asked asked' : List ℕ} {ran ended : ℕ}
-    → Came-to ask s asked ran ended t → asked ≡ asked' → Came-to ask s asked' ran ended t
-came_as {ask = ask} {s = s} {t = t} {ran = ran} {ended = ended} c e = subst (λ (l : List ℕ). Came-to ask s l ran ended t) e c
+    → CameTo ask s asked ran ended t → asked ≡ asked' → CameTo ask s asked' ran ended t
+came_as {ask = ask} {s = s} {t = t} {ran = ran} {ended = ended} c e = subst (λ (l : List ℕ). CameTo ask s l ran ended t) e c

@@ -10,7 +10,7 @@ use Rattle.network.specs.Request.{joined, without_oldest, replaced, changed, req
 use Rattle.network.specs.Runs.{Asked, state_after, AllRan, Complete}
 use Rattle.network.specs.Relaying.{plus, after, relaying, relay_of, relay_state, running_sum, twice_in_turn, MadeOf, Relayed}
 use Rattle.network.specs.Slots.{one_way, held_by}
-use Rattle.network.specs.Drivers.{Went-round}
+use Rattle.network.specs.Drivers.{WentRound}
 use Rattle.network.specs.declared.answer.Answer.TheVariants.{Ran}
 use Rattle.network.specs.declared.relay.Station.{Station}
 use Rattle.network.specs.declared.relay.Station.TheVariants.{Adds, Holds, Done}
@@ -216,7 +216,7 @@ module _ (values : List ℕ) (count : ℕ) (stations : List Station) (letters : 
       (n, adds, none, rw none (relay_completes count (λ p. get_or values p 0) (relay_state stations nothing) (λ p h. adds p (omega (arith, h, n))) (no_row stations)))
 
   pub last_station : MadeOf values count stations letters → (stations' : List Station) (letters' : List (Option ℕ)) (told : Bool)
-      → Went-round (relay_of count) 1 (relay_state stations letters) (relay_state stations' letters') told → 0 < count
+      → WentRound (relay_of count) 1 (relay_state stations letters) (relay_state stations' letters') told → 0 < count
       → get_or stations' (count - 1) (Adds 0) ≡ Done (running_sum (λ p. get_or values p 0) (count - 1))
   unfolding held_by relay_of
   last_station (n, adds, none, whole) stations' letters' told went some =
@@ -225,7 +225,7 @@ module _ (values : List ℕ) (count : ℕ) (stations : List Station) (letters : 
       ∙ last_own count (λ p. get_or values p 0) (relay_state stations nothing) (λ p h. adds p (omega (arith, h, n))) (no_row stations) (count - 1) (omega arith)
 
   pub relayed_by : MadeOf values count stations letters → (count' : ℕ) (stations' : List Station) (letters' : List (Option ℕ)) (told : Bool)
-      → Went-round (relay_of count) 1 (relay_state stations letters) (relay_state stations' letters') told
+      → WentRound (relay_of count) 1 (relay_state stations letters) (relay_state stations' letters') told
       → relay_of count' ≡ relay_of count → count ≤ 8 → (r : Option ℕ)
       → MatchOption r ((x : ℕ) → get_or stations' (count' - 1) (Adds 0) ≡ Done x → count' ≡ 0) (λ x. (0 < count') × (get_or stations' (count' - 1) (Adds 0) ≡ Done x))
       → Relayed values r

@@ -3,8 +3,8 @@ use Rattle.std.proofs.Common.{◌≡◌, ℕ, suc, ◌+◌, Bool, true, eqb, Lis
 use Rattle.std.proofs.lemmas.Bool.{eqb-true, eq-eqb}
 use Rattle.network.specs.Network.{Network, State}
 use Rattle.network.specs.Request.{request}
-use Rattle.network.specs.Runs.{state_after, steps_run, Came-to, AllEnded, in_turn, repeated}
-use Rattle.network.specs.Drivers.{LedByAny, Went-round}
+use Rattle.network.specs.Runs.{state_after, steps_run, CameTo, AllEnded, in_turn, repeated}
+use Rattle.network.specs.Drivers.{LedByAny, WentRound}
 use Rattle.network.proofs.Asking.{state_after_++, in_turn_names, quiet_tells}
 use Rattle.network.proofs.Moves.{request_stays}
 use Rattle.network.proofs.Theorems.{deeper_rows_same_end, quiet_round_is_end}
@@ -15,10 +15,10 @@ led_by_any {L} {S} net depth s requests shallower list le whole =
 
 -- A round that was asked of boards with the network and the depth that were given.
 pub came_at : {L S : Type 0} {net net' : Network L S} {depth depth' : ℕ} (t u : State L S) (ran ended : ℕ) → net' ≡ net → depth' ≡ depth
-    → Came-to (request net' depth') t (in_turn net'.boards) ran ended u → Came-to (request net depth) t (in_turn net.boards) ran ended u
+    → CameTo (request net' depth') t (in_turn net'.boards) ran ended u → CameTo (request net depth) t (in_turn net.boards) ran ended u
 came_at {L} {S} {net} {net'} {depth} {depth'} t u ran ended n d c =
-    subst (λ (k : ℕ). Came-to (request net k) t (in_turn net.boards) ran ended u) d
-    (subst (λ (m : Network L S). Came-to (request m depth') t (in_turn m.boards) ran ended u) n c)
+    subst (λ (k : ℕ). CameTo (request net k) t (in_turn net.boards) ran ended u) d
+    (subst (λ (m : Network L S). CameTo (request m depth') t (in_turn m.boards) ran ended u) n c)
 
 module _ {L S : Type 0} (net : Network L S) (depth : ℕ) (s : State L S) where
   -- so many rounds lead from s to t
@@ -29,14 +29,14 @@ module _ {L S : Type 0} (net : Network L S) (depth : ℕ) (s : State L S) where
   unfolding repeated state_after
   no_round = (0, refl)
 
-  pub one_more_round : {t u : State L S} {ran ended : ℕ} → RoundsTo t → Came-to (request net depth) t (in_turn net.boards) ran ended u → RoundsTo u
+  pub one_more_round : {t u : State L S} {ran ended : ℕ} → RoundsTo t → CameTo (request net depth) t (in_turn net.boards) ran ended u → RoundsTo u
   unfolding repeated
   one_more_round (k, e) c =
       (suc k, c.left_state ∙ ap (λ x. state_after (request net depth) x (in_turn net.boards)) e ∙ sym (state_after_++ (request net depth) (repeated k (in_turn net.boards)) (in_turn net.boards) s))
 
   -- the round in which none ran
-  quiet_at : (t : State L S) (ran ended : ℕ) → RoundsTo t → Came-to (request net depth) t (in_turn net.boards) ran ended t
-      → ran ≡ 0 → Went-round net depth s t (eqb ended net.boards)
+  quiet_at : (t : State L S) (ran ended : ℕ) → RoundsTo t → CameTo (request net depth) t (in_turn net.boards) ran ended t
+      → ran ≡ 0 → WentRound net depth s t (eqb ended net.boards)
   quiet_at t ran ended rounds c none =
       let silent : steps_run (request net depth) t (in_turn net.boards) ≡ 0 = omega (arith, c.steps, none) in
       let q = quiet_tells (request net depth) (request_stays net depth) t net.boards silent in
@@ -55,10 +55,10 @@ module _ {L S : Type 0} (net : Network L S) (depth : ℕ) (s : State L S) where
       }
 
   pub went_round : {t u : State L S} {ran ended : ℕ} (told : Bool) → RoundsTo t
-      → Came-to (request net depth) t (in_turn net.boards) ran ended u
-      → ran ≡ 0 → told ≡ eqb ended net.boards → Went-round net depth s u told
+      → CameTo (request net depth) t (in_turn net.boards) ran ended u
+      → ran ≡ 0 → told ≡ eqb ended net.boards → WentRound net depth s u told
   went_round {t} {u} {ran} {ended} told rounds c none tells =
       let silent : steps_run (request net depth) t (in_turn net.boards) ≡ 0 = omega (arith, c.steps, none) in
       let stays : t ≡ u = sym (c.left_state ∙ (quiet_tells (request net depth) (request_stays net depth) t net.boards silent).unchanged) in
-      let came = subst (λ (x : State L S). Came-to (request net depth) x (in_turn net.boards) ran ended u) stays c in
-      subst (Went-round net depth s u) (sym tells) (quiet_at u ran ended (subst RoundsTo stays rounds) came none)
+      let came = subst (λ (x : State L S). CameTo (request net depth) x (in_turn net.boards) ran ended u) stays c in
+      subst (WentRound net depth s u) (sym tells) (quiet_at u ran ended (subst RoundsTo stays rounds) came none)

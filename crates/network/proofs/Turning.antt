@@ -4,7 +4,7 @@ use lib.ListN.{length-replicate, replicate-append-replicate}
 use Rattle.std.proofs.lemmas.Bool.{eq-eqb, ne_eqb, cond-true, cond-false}
 use Rattle.std.proofs.lemmas.Bool.Decides.{nat_tests}
 use Rattle.network.specs.Network.{ends, Network, State}
-use Rattle.network.specs.Drivers.{Went-round}
+use Rattle.network.specs.Drivers.{WentRound}
 use Rattle.network.specs.Request.{joined}
 use Rattle.network.specs.Ringing.{seat, board_after, board_before, ringing, ring_of, so_many, ring_state, seat_left, ring_left}
 use Rattle.network.specs.declared.answer.Answer.{Answer}
@@ -91,9 +91,9 @@ second_same e = cc
 
 -- What a driver leaves, under other names of the lists and of what it says.
 pub went_as : {net : Network (Unit {0}) Seat} {depth count : ℕ} {s : State (Unit {0}) Seat} {said said' : Bool} (n : ℕ) {seats seats' : List Seat} {tokens tokens' : List ℕ}
-    → Went-round net depth s (ring_state count seats tokens) said → n ≡ count → seats' ≡ seats → tokens' ≡ tokens → said' ≡ said
-    → Went-round net depth s (ring_state n seats' tokens') said'
+    → WentRound net depth s (ring_state count seats tokens) said → n ≡ count → seats' ≡ seats → tokens' ≡ tokens → said' ≡ said
+    → WentRound net depth s (ring_state n seats' tokens') said'
 went_as {net} {depth} {count} {s} {said} {said'} n {seats} {seats'} {tokens} {tokens'} w e f h r =
-    subst (Went-round net depth s (ring_state n seats' tokens')) (sym r)
-    (subst (λ k. Went-round net depth s (ring_state k seats' tokens') said) (sym e)
-    (subst (λ x. Went-round net depth s (ring_state count x tokens') said) (sym f) (subst (λ x. Went-round net depth s (ring_state count seats x) said) (sym h) w)))
+    subst (WentRound net depth s (ring_state n seats' tokens')) (sym r)
+    (subst (λ k. WentRound net depth s (ring_state k seats' tokens') said) (sym e)
+    (subst (λ x. WentRound net depth s (ring_state count x tokens') said) (sym f) (subst (λ x. WentRound net depth s (ring_state count seats x) said) (sym h) w)))

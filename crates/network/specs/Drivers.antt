@@ -12,7 +12,7 @@ LedByAny net depth s requests =
     → Led (request net depth) net.boards s list requests (state_after (request net shallower) s list)
 
 -- From state s the boards were asked in turn, round after round, and state t is left; `ended` says whether all have ended.
-pub record Went-round {L S : Type 0} (net : Network L S) (depth : ℕ) (s t : State L S) (ended : Bool) : Type 0 where
+pub record WentRound {L S : Type 0} (net : Network L S) (depth : ℕ) (s t : State L S) (ended : Bool) : Type 0 where
   -- some number of whole rounds was asked
   pub rounds : (k : ℕ) × (t ≡ state_after (request net depth) s (repeated k (in_turn net.boards)))
   -- one more would run nothing

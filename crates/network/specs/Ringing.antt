@@ -1,7 +1,7 @@
 -- A ring: each board puts tokens to the board after and takes them from the board before, the last board and the first
 -- being neighbours. A token says nothing but that it is there.
 use Rattle.std.specs.Prelude.{◌≡◌, ℕ, ◌+◌, ◌-◌, ◌*◌, Bool, true, false, cond, List, length, replicate, Some, None, Option, ◌==◌, ◌≢◌}
-use Rattle.network.specs.Drivers.{Went-round}
+use Rattle.network.specs.Drivers.{WentRound}
 use Rattle.network.specs.Network.{Step, ends, puts, takes, Network, State}
 use Rattle.network.specs.Slots.{held_by, added_up}
 use Rattle.network.specs.declared.ring.Seat.{Seat}
@@ -46,4 +46,4 @@ Passed seats tokens depth seats' tokens' None =
     (length tokens ≢ length seats) × (seats' ≡ seats) × (tokens' ≡ tokens)
 Passed seats tokens depth seats' tokens' (Some ended) =
     (length tokens ≡ length seats)
-    × Went-round (ring_of (length seats)) depth (ring_state (length seats) seats tokens) (ring_state (length seats) seats' tokens') ended
+    × WentRound (ring_of (length seats)) depth (ring_state (length seats) seats tokens) (ring_state (length seats) seats' tokens') ended

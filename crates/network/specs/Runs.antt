@@ -39,7 +39,7 @@ abbrev pub steps_run : {X : Type 0} → Asked X → X → List ℕ → ℕ
 steps_run ask s ps = tally is_ran (answers ask s ps)
 
 -- A list of requests was asked from state s: so many answers were Ran, so many Ended, and state t is left.
-pub record Came-to {X : Type 0} (ask : Asked X) (s : X) (requests : List ℕ) (ran ended : ℕ) (t : X) : Type 0 where
+pub record CameTo {X : Type 0} (ask : Asked X) (s : X) (requests : List ℕ) (ran ended : ℕ) (t : X) : Type 0 where
   pub steps : ran ≡ steps_run ask s requests
   pub ends : ended ≡ tally is_ended (answers ask s requests)
   pub left_state : t ≡ state_after ask s requests

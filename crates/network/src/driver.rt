@@ -1,8 +1,8 @@
 //! Drivers for any set of boards.
 ghost use Rattle.std.specs.Prelude.{◌≡◌, ℕ, ◌+◌, ◌^◌, ◌<◌, ◌≤◌};
-ghost use Rattle.network.specs.Drivers.{LedByAny, Went-round};
+ghost use Rattle.network.specs.Drivers.{LedByAny, WentRound};
 ghost use Rattle.network.specs.Request.{request as requested};
-ghost use Rattle.network.specs.Runs.{is_ran, is_ended, Came-to, in_turn};
+ghost use Rattle.network.specs.Runs.{is_ran, is_ended, CameTo, in_turn};
 
 use crate::answer::Answer;
 use crate::boards::Boards;
@@ -37,7 +37,7 @@ impl Tally {
 
 /// Asks every board once, in turn.
 fn round<N: Boards>(boards: &mut N) -> Tally
-    ensures came_to { Came-to (requested (network boards.old) (depth boards.old)) (state boards.old) (in_turn (network boards.old).boards) result.ran result.ended (state boards.new) }
+    ensures came_to { CameTo (requested (network boards.old) (depth boards.old)) (state boards.old) (in_turn (network boards.old).boards) result.ran result.ended (state boards.new) }
     ensures same_network { network boards.new ≡ network boards.old }
     ensures same_depth { depth boards.new ≡ depth boards.old }
     ensures same_lent { lent boards.new ≡ lent boards.old }
@@ -53,7 +53,7 @@ fn round<N: Boards>(boards: &mut N) -> Tally
 
 /// Asks a list of requests, whichever boards it names.
 pub fn ask_all<N: Boards>(boards: &mut N, requests: &[usize]) -> Tally
-    ensures came_to { Came-to (requested (network boards.old) (depth boards.old)) (state boards.old) requests.now result.ran result.ended (state boards.new) }
+    ensures came_to { CameTo (requested (network boards.old) (depth boards.old)) (state boards.old) requests.now result.ran result.ended (state boards.new) }
     ensures led { LedByAny (network boards.old) (depth boards.old) (state boards.old) requests.now }
     ensures same_network { network boards.new ≡ network boards.old }
     ensures same_depth { depth boards.new ≡ depth boards.old }
@@ -68,7 +68,7 @@ pub fn ask_all<N: Boards>(boards: &mut N, requests: &[usize]) -> Tally
 
 /// Goes round until no board runs in a round; whether every board has ended then.
 pub fn run_until_quiet<N: Boards>(boards: &mut N) -> bool
-    ensures went_round { Went-round (network boards.old) (depth boards.old) (state boards.old) (state boards.new) result }
+    ensures went_round { WentRound (network boards.old) (depth boards.old) (state boards.old) (state boards.new) result }
     ensures same_network { network boards.new ≡ network boards.old }
     ensures same_depth { depth boards.new ≡ depth boards.old }
     ensures same_lent { lent boards.new ≡ lent boards.old }

@@ -7,7 +7,7 @@ use Rattle.owner_map.specs.declared.makes.Make.{Make}
 use Rattle.owner_map.specs.declared.makes.Make.TheVariants.{One, Block, Cyclic, CyclicBy}
 use Rattle.owner_map.specs.Meaning.{Deal}
 use Rattle.owner_map.specs.Rules.{dealt, deal_of, block_width, LeastWidth, Sizes, Makeable, width_of}
-use Rattle.owner_map.specs.MakeLaws.{Makes-agree}
+use Rattle.owner_map.specs.MakeLaws.{MakesAgree}
 
 same_rule : (f g : ℕ → ℕ) (a n : ℕ) → ((x : ℕ) → a ≤ x → x < a + n → f x ≡ g x) → map f (range_with_len a n) ≡ map g (range_with_len a n)
 same_rule f g a zero same = refl
@@ -59,7 +59,7 @@ single_is_one n (CyclicBy k) = same_deal 1 n _ _ (λ x low high. mod-one ((x - 1
 pub block_fits : (p n : ℕ) → Sizes p n → (1 ≤ block_width p n) × (block_width p n ≤ 32)
 block_fits p n sizes = (some_block p n sizes.0 sizes.2, omega (arith, small_block p n sizes.0))
 
-pub makes_agree : (p n : ℕ) → 1 ≤ p → Makes-agree p n
+pub makes_agree : (p n : ℕ) → 1 ≤ p → MakesAgree p n
 makes_agree p n some-boards = record {
   block_is_least = least p n some-boards;
   block_is_runs = block_is_runs p n some-boards;

@@ -4,7 +4,7 @@ use Rattle.owner_map.specs.declared.makes.Make.{Make}
 use Rattle.owner_map.specs.declared.makes.Make.TheVariants.{One, Block, Cyclic, CyclicBy}
 use Rattle.owner_map.specs.Rules.{deal_of, block_width, LeastWidth}
 
-pub record Makes-agree (p n : ℕ) : Type 0 where
+pub record MakesAgree (p n : ℕ) : Type 0 where
   -- the width of a block is the least that leaves no position over
   pub block_is_least : LeastWidth p n (block_width p n)
   -- block deals runs of that width

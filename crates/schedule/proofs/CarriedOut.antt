@@ -11,10 +11,10 @@ use Rattle.compiler.proofs.ListSums.{sums_below}
 use Rattle.schedule.specs.Boards.{Own}
 use Rattle.schedule.specs.Memory.{Event, Memory, after_event, after_events, AllCan, AtHome, share_of}
 use Rattle.schedule.specs.Start.{There, Tied}
-use Rattle.schedule.specs.Laws.{puts_in, takes_in, Carried-out, EventsAreCarriedOut}
+use Rattle.schedule.specs.Laws.{puts_in, takes_in, CarriedOut, EventsAreCarriedOut}
 use Rattle.schedule.proofs.BoardSteps.{went_on, steps_left}
 use Rattle.schedule.proofs.StepEvents.{Came, runs_next}
-use Rattle.schedule.proofs.Resting.{rested, work_next, came_on, rests_first, Ended-below, all_rest}
+use Rattle.schedule.proofs.Resting.{rested, work_next, came_on, rests_first, EndedBelow, all_rest}
 
 -- the first event is of the share of its own board, and of no other
 pub share_here : (ev : Event) (events : List Event) → share_of ev.0 (ev ∷ events) ≡ ev.1 ∷ share_of ev.0 events
@@ -59,7 +59,7 @@ module _ {V : Type 0} (k : Setting V) (boards depth : ℕ) (Here : Element → T
 
   -- all events, and then the steps that are left, which do nothing
   pub carried_to_end : (events : List Event) (s : State V (Own V)) (m : Memory V) → Tied Here owner s m → AllCan k depth m events → AllHome events → Shared s events
-      → Ended-below k boards depth Here owner s (after_events k m events) boards
+      → EndedBelow k boards depth Here owner s (after_events k m events) boards
   carried_to_end [] s m tied can home shared =
       all_rest k boards depth Here owner boards s m (omega arith) tied (λ p inside. sym (shared p inside))
   carried_to_end (ev ∷ events) s m tied can home shared =
@@ -82,7 +82,7 @@ module _ {V : Type 0} (k : Setting V) (boards depth : ℕ) (Here : Element → T
       ∙ sum_like (λ p. length (t.own p).todo) (λ _. 0) boards (λ p inside. ap length (ended p inside)) ∙ sum_none boards
 
   -- what the boards ran, put and took is then all that they had to
-  pub carried_out_by : (s : State V (Own V)) (m : Memory V) (end : Ended-below k boards depth Here owner s m boards) → Carried-out k boards depth Here owner s end.list m
+  pub carried_out_by : (s : State V (Own V)) (m : Memory V) (end : EndedBelow k boards depth Here owner s m boards) → CarriedOut k boards depth Here owner s end.list m
   carried_out_by s m end =
       let leads = end.went.leads in
       let ended = end.below in

@@ -15,7 +15,7 @@ use Rattle.schedule.proofs.EventLists.{sums_same}
 use Rattle.schedule.proofs.EventShares.{nest_share}
 use Rattle.schedule.proofs.EventHomes.{Home, nest_home}
 use Rattle.schedule.proofs.EventCounts.{steps_counted, working_sum, shares_sum}
-use Rattle.schedule.proofs.LetterCounts.{By-letters, puts_by_letters, takes_by_letters, nest_letters}
+use Rattle.schedule.proofs.LetterCounts.{ByLetters, puts_by_letters, takes_by_letters, nest_letters}
 
 module _ (n : Sheet) (deals : Deals) (kept : nest_kept n.grid n.arrays n.sweeps n.statements ≡ true) (fit : Fits n.grid n.arrays deals) (sound : AllSound deals) where
   by_boards : (events : List Event) → All (Home n deals) events → All (λ ev. ev.0 < boards_of n.grid) events
@@ -23,7 +23,7 @@ module _ (n : Sheet) (deals : Deals) (kept : nest_kept n.grid n.arrays n.sweeps 
   by_boards (ev ∷ events) h = (h.0.0, by_boards events h.1)
 
   -- letters put, or taken, by all boards together
-  pub letters_counted : (f : Deed → ℕ) → ((s : Said) → By-letters f n.grid.rows deals s) → f rests ≡ 0
+  pub letters_counted : (f : Deed → ℕ) → ((s : Said) → ByLetters f n.grid.rows deals s) → f rests ≡ 0
       → sum_by (λ p. sum_by f (nest_deeds n deals p)) (range_with_len 0 (boards_of n.grid)) ≡ letters_of n deals
   letters_counted f by idle =
       sums_same (λ p. sum_by f (nest_deeds n deals p)) (λ p. sum_by f (share_of p (nest_events n deals))) (range_with_len 0 (boards_of n.grid))

@@ -63,13 +63,13 @@ abbrev counted : (Deed → ℕ) → ℕ → Deals → Said → Task → Iteratio
 counted f q deals s t e = f (deed_of (seat q deals (doer q deals s t e)) s t e)
 
 -- steps are counted by the letters of a statement's reads
-pub record By-letters (f : Deed → ℕ) (q : ℕ) (deals : Deals) (s : Said) : Type 0 where
+pub record ByLetters (f : Deed → ℕ) (q : ℕ) (deals : Deals) (s : Said) : Type 0 where
   pub idle : f rests ≡ 0
   pub base : (e : Iteration) → counted f q deals s Base e ≡ 0
   pub store : (e : Iteration) → counted f q deals s Store e ≡ 0
   pub read : (r : ReadTerm) (e : Iteration) → counted f q deals s (Ship r) e + counted f q deals s (Add r) e ≡ length (letter_in (seat q deals 0) s r e)
 
-pub puts_by_letters : (q : ℕ) (deals : Deals) (s : Said) → By-letters puts_in q deals s
+pub puts_by_letters : (q : ℕ) (deals : Deals) (s : Said) → ByLetters puts_in q deals s
 puts_by_letters q deals s = record {
   idle = refl;
   base = λ e. cond_both (owns_at (seat q deals (doer q deals s Base e)) s.put e) (holds s.base (element_at s.put e)) rests (λ d. puts_in d ≡ 0) (λ _. refl) (λ _. refl);
@@ -86,7 +86,7 @@ puts_by_letters q deals s = record {
         (λ _. cond_both (owns_at b r.source e) own taken (λ d. puts_in d ≡ 0) (λ _. refl) (λ _. refl))
         (λ _. refl)
 
-pub takes_by_letters : (q : ℕ) (deals : Deals) (s : Said) → By-letters takes_in q deals s
+pub takes_by_letters : (q : ℕ) (deals : Deals) (s : Said) → ByLetters takes_in q deals s
 takes_by_letters q deals s = record {
   idle = refl;
   base = λ e. cond_both (owns_at (seat q deals (doer q deals s Base e)) s.put e) (holds s.base (element_at s.put e)) rests (λ d. takes_in d ≡ 0) (λ _. refl) (λ _. refl);
@@ -116,7 +116,7 @@ passes_sum w s base store =
     sums_joined w (λ r. Ship r ∷ (Add r ∷ [])) reads ∙ sums_alike (λ r. sum_by w (Ship r ∷ (Add r ∷ []))) (λ r. w (Ship r) + w (Add r)) reads (λ r. omega (arith, sum_by-cons w (Ship r) (Add r ∷ []), sum_by-cons w (Add r) [])) in
     omega (arith, sum_by-cons w Base (pairs ++ (Store ∷ [])), sum_by-append w pairs (Store ∷ []), sum_by-cons w Store [])
 
-module _ (f : Deed → ℕ) (q : ℕ) (deals : Deals) (s : Said) (by : By-letters f q deals s) where
+module _ (f : Deed → ℕ) (q : ℕ) (deals : Deals) (s : Said) (by : ByLetters f q deals s) where
   abbrev weight : Event → ℕ
   weight ev = f ev.1
 
@@ -161,7 +161,7 @@ module _ (f : Deed → ℕ) (q : ℕ) (deals : Deals) (s : Said) (by : By-letter
   statement_weighs Seq = seq_weighs
 
 -- the letters of the whole nest
-pub nest_letters : (f : Deed → ℕ) (n : Sheet) (deals : Deals) → ((s : Said) → By-letters f n.grid.rows deals s) → sum_by (λ ev. f ev.1) (nest_events n deals) ≡ letters_of n deals
+pub nest_letters : (f : Deed → ℕ) (n : Sheet) (deals : Deals) → ((s : Said) → ByLetters f n.grid.rows deals s) → sum_by (λ ev. f ev.1) (nest_events n deals) ≡ letters_of n deals
 nest_letters f n deals by =
     let q : ℕ = n.grid.rows in
     sums_again (λ ev. f ev.1) n.sweeps (sweep_events q deals n.statements)

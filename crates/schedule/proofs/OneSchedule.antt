@@ -16,7 +16,7 @@ use Rattle.schedule.specs.Boards.{Own, boards_that, next_of}
 use Rattle.schedule.specs.Memory.{Memory, after_events}
 use Rattle.schedule.specs.Events.{owner_in, nest_events, nest_deeds}
 use Rattle.schedule.specs.Start.{There, Tied, Loaded}
-use Rattle.schedule.specs.Laws.{puts_in, takes_in, Carried-out, EventsAreCarriedOut, StatementsHappen, Events-fit, Completes, OneScheduleCompletes}
+use Rattle.schedule.specs.Laws.{puts_in, takes_in, CarriedOut, EventsAreCarriedOut, StatementsHappen, EventsFit, Completes, OneScheduleCompletes}
 use Rattle.schedule.proofs.EventLists.{sums_same}
 use Rattle.schedule.proofs.EventsFit.{every_nest_fits}
 use Rattle.schedule.proofs.NestRuns.{Between, Leads, nest_leads}
@@ -47,8 +47,8 @@ module _ (V : Type 0) (n : Sheet) (deals : Deals) (plus times : V → V → V) (
   loaded_between held long held-long = record { no_letters_lem = loaded.empty; elements = loaded.have; elements_length = long; held_length = held-long }
 
   -- what was carried out from it, completes it
-  completed : (fits : Events-fit n deals) (list : List ℕ)
-      → Carried-out (setting_of plus times coefficients n.arrays outside) (boards_of n.grid) (depth_of n deals) (There n.arrays) (owner_in n.grid.rows deals) s list
+  completed : (fits : EventsFit n deals) (list : List ℕ)
+      → CarriedOut (setting_of plus times coefficients n.arrays outside) (boards_of n.grid) (depth_of n deals) (There n.arrays) (owner_in n.grid.rows deals) s list
       (after_events (setting_of plus times coefficients n.arrays outside) (memory_of n.grid.rows deals s) (nest_events n deals))
       → ((held : List V) → length held ≡ total n.arrays
       → Leads (setting_of plus times coefficients n.arrays outside) (depth_of n deals) (memory_of n.grid.rows deals s) (nest_events n deals)
@@ -72,7 +72,7 @@ one_schedule V carried happen n deals kept fit sound plus times coefficients out
     let k : Setting V = setting_of plus times coefficients n.arrays outside in
     let q : ℕ = n.grid.rows in
     let m : Memory V = memory_of q deals s in
-    let fits : Events-fit n deals = every_nest_fits n deals kept fit sound in
+    let fits : EventsFit n deals = every_nest_fits n deals kept fit sound in
     let leads : (held : List V) → length held ≡ total n.arrays → Leads k (depth_of n deals) m (nest_events n deals) (sequential_of plus times coefficients outside n (buffers_of arrays held)) = λ held held-long.
     nest_leads happen n deals kept fit sound plus times coefficients outside m (buffers_of arrays held) (loaded_between V n deals plus times coefficients outside arrays s loaded held long held-long) in
     let tied : Tied (There n.arrays) (owner_in q deals) s m = record { elements = λ e there. refl; held = λ e there. refl; rows = refl } in

@@ -81,7 +81,7 @@ module _ {V : Type 0} (k : Setting V) (boards depth : ℕ) (There : Element → 
   rests_first (stores e ∷ xs) s p m inside tied now = stays s p _ m tied now
 
   -- requests lead to a state tied to memory m, in which the boards below a count have nothing to do
-  pub record Ended-below (s : State V (Own V)) (m : Memory V) (count : ℕ) : Type 0 where
+  pub record EndedBelow (s : State V (Own V)) (m : Memory V) (count : ℕ) : Type 0 where
     pub to : State V (Own V)
     pub list : List ℕ
     pub went : Went k boards depth s to list
@@ -91,7 +91,7 @@ module _ {V : Type 0} (k : Setting V) (boards depth : ℕ) (There : Element → 
 
   -- the boards run what is left, one after the other
   pub all_rest : (count : ℕ) (s : State V (Own V)) (m : Memory V) → count ≤ boards → Tied There owner s m
-      → ((p : ℕ) → p < boards → working (s.own p).todo ≡ []) → Ended-below s m count
+      → ((p : ℕ) → p < boards → working (s.own p).todo ≡ []) → EndedBelow s m count
   all_rest zero s m few tied idle =
       record { to = s; list = []; went = went_nowhere k boards depth s; tied = tied; below = λ p h. absurd (omega arith); above = λ _ _. refl }
   all_rest (suc n) s m few tied idle =

@@ -39,7 +39,7 @@ takes_in (stores e) = 0
 
 -- boards were asked by a list, each request was answered ran, and they ended: each ran all its steps, and the values at
 -- the owners are those of one memory
-pub record Carried-out {V : Type 0} (k : Setting V) (boards depth : ℕ) (There : Element → Type 0) (owner : Element → ℕ)
+pub record CarriedOut {V : Type 0} (k : Setting V) (boards depth : ℕ) (There : Element → Type 0) (owner : Element → ℕ)
     (s : State V (Own V)) (list : List ℕ) (end : Memory V) : Type 0 where
   pub runs : AllRan (request (boards_that k boards) depth) s list
   pub tied : Tied There owner (state_after (request (boards_that k boards) depth) s list) end
@@ -57,11 +57,11 @@ EventsAreCarriedOut V =
     → Tied (There k.arrays) owner s m → AllCan k depth m events
     → ((ev : Event) → In ev events → (ev.0 < boards) × AtHome (There k.arrays) owner ev.0 ev.1)
     → ((p : ℕ) → p < boards → share_of p events ≡ working (s.own p).todo)
-    → (list : List ℕ) × Carried-out k boards depth (There k.arrays) owner s list (after_events k m events)
+    → (list : List ℕ) × CarriedOut k boards depth (There k.arrays) owner s list (after_events k m events)
 
 -- the events of one run of a statement on one memory: they can happen, leave no letter, and leave the elements that the
 -- statement leaves in sequence, whatever was held
-pub record Statement-happens {V : Type 0} (k : Setting V) (g : ℕ) (deals : Deals) (s : Said) (depth : ℕ) (m : Memory V) (b : Buffers V) : Type 0 where
+pub record StatementHappens {V : Type 0} (k : Setting V) (g : ℕ) (deals : Deals) (s : Said) (depth : ℕ) (m : Memory V) (b : Buffers V) : Type 0 where
   pub can : AllCan k depth m (statement_events g deals s)
   pub no_letters_lem : NoLetters (after_events k m (statement_events g deals s))
   pub elements : Agrees k.arrays k.outside (after_events k m (statement_events g deals s)).elements (after_statement k b s).elements
@@ -71,11 +71,11 @@ StatementsHappen V =
     (n : Sheet) (deals : Deals) → nest_kept n.grid n.arrays n.sweeps n.statements ≡ true → Fits n.grid n.arrays deals → AllSound deals
     → (plus times : V → V → V) (coefficients : List V) (outside : V) (s : Said) → In s n.statements → (m : Memory V) (b : Buffers V)
     → NoLetters m → Agrees n.arrays outside m.elements b.elements → length b.elements ≡ total n.arrays → length b.held ≡ total n.arrays
-    → Statement-happens (setting_of plus times coefficients n.arrays outside) n.grid.rows deals s (statement_depth n.grid deals s) m b
+    → StatementHappens (setting_of plus times coefficients n.arrays outside) n.grid.rows deals s (statement_depth n.grid deals s) m b
 
 -- the share of each board in the events of a nest is what it has to do, steps that do nothing aside; events touch only
 -- what belongs to their boards; and they put and take the letters that are counted
-pub record Events-fit (n : Sheet) (deals : Deals) : Type 0 where
+pub record EventsFit (n : Sheet) (deals : Deals) : Type 0 where
   pub shares : (p : ℕ) → p < boards_of n.grid → share_of p (nest_events n deals) ≡ working (nest_deeds n deals p)
   pub home : (ev : Event) → In ev (nest_events n deals)
       → (ev.0 < boards_of n.grid) × AtHome (There n.arrays) (owner_in n.grid.rows deals) ev.0 ev.1
@@ -86,7 +86,7 @@ pub record Events-fit (n : Sheet) (deals : Deals) : Type 0 where
 abbrev pub EveryNestFits : Type 0
 EveryNestFits =
     (n : Sheet) (deals : Deals) → nest_kept n.grid n.arrays n.sweeps n.statements ≡ true → Fits n.grid n.arrays deals → AllSound deals
-    → Events-fit n deals
+    → EventsFit n deals
 
 -- a list completes the boards of a nest from a loaded state: as long as the compiled steps; at its end as many letters were put
 -- and taken as compiled, none waits, and the owners have the elements of the sequential run

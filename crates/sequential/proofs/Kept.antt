@@ -78,14 +78,14 @@ factor_of least s k =
     let q = and_parts (leb least s.factor) (leb s.factor 4) p.0 in
     (leb-true least s.factor q.0, leb-true s.factor 4 q.1, leb-true (far s.offset) 64 p.1)
 
-pub record Access-parts (least : ℕ) (arrays : List Array) (i j : Range) (a : Access) : Type 0 where
+pub record AccessParts (least : ℕ) (arrays : List Array) (i j : Range) (a : Access) : Type 0 where
   pub there : a.array < length arrays
   pub row : subscript_kept least a.row ≡ true
   pub column : subscript_kept least a.column ≡ true
   pub rows : inside i j (get_or arrays a.array nowhere).rows a.row ≡ true
   pub columns : inside i j (get_or arrays a.array nowhere).columns a.column ≡ true
 
-pub access_parts : (least : ℕ) (arrays : List Array) (i j : Range) (a : Access) → access_kept least arrays i j a ≡ true → Access-parts least arrays i j a
+pub access_parts : (least : ℕ) (arrays : List Array) (i j : Range) (a : Access) → access_kept least arrays i j a ≡ true → AccessParts least arrays i j a
 access_parts least arrays i j a k =
     let there = ltb a.array (length arrays) in
     let rows = inside i j (get_or arrays a.array nowhere).rows a.row in
