@@ -1,13 +1,13 @@
 use Rattle.std.proofs.Common.{◌+◌, ◌<◌, length, sym, ap, ◌∙◌, arith, rules}
 use Rattle.belt.proofs.Lines.{count_mine, count_other}
 use Rattle.belt.proofs.line.count_of.Goals as goal
-use Rattle.belt.proofs.line.count_of.Goals.{then-is-for, else-is-for}
+use Rattle.belt.proofs.line.count_of.Goals.{then-is_for, else-is_for}
 
 pub loop-k-init : goal.loop-k-init
 loop-k-init g c = search rules
 
-pub overflow-add-count : goal.overflow-add-count
-overflow-add-count g c = search rules
+pub overflow_add-count : goal.overflow_add-count
+overflow_add-count g c = search rules
 
 pub loop-k-preserved : goal.loop-k-preserved
 loop-k-preserved g c =
@@ -16,9 +16,9 @@ loop-k-preserved g c =
     let slots = c.args.slots.now in
     let k = c.loop-k.k in
     let within : k < length slots = omega arith in
-    elim c.if-is-for.branch [
-      | then-is-for w ↦ (w.count_is ∙ ap (λ n. n + 1) c.loop-k.invariant.0 ∙ sym (count_mine from to slots k c.index-slots-k.result c.is-for.result within c.index-slots-k.is c.is-for.ensures w.if-is-for.true), omega (arith, w.count_is))
-      | else-is-for w ↦ (w.count_is ∙ c.loop-k.invariant.0 ∙ sym (count_other from to slots k c.index-slots-k.result c.is-for.result within c.index-slots-k.is c.is-for.ensures w.if-is-for.false), omega (arith, w.count_is))
+    elim c.if-is_for.branch [
+      | then-is_for w ↦ (w.count_is ∙ ap (λ n. n + 1) c.loop-k.invariant.0 ∙ sym (count_mine from to slots k c.index-slots-k.result c.is_for.result within c.index-slots-k.is c.is_for.ensures w.if-is_for.true), omega (arith, w.count_is))
+      | else-is_for w ↦ (w.count_is ∙ c.loop-k.invariant.0 ∙ sym (count_other from to slots k c.index-slots-k.result c.is_for.result within c.index-slots-k.is c.is_for.ensures w.if-is_for.false), omega (arith, w.count_is))
     ]
 
 pub returns : goal.returns

@@ -21,18 +21,18 @@ program-requires g c = (c.requires, omega (arith, c.loop-board-test.true, ap boa
 
 pub loop-board-preserved : goal.loop-board-preserved
 loop-board-preserved g c =
-    let deals = dealt (map g.R.OwnerMap.meaning c.args.row-maps.now) (map g.C.OwnerMap.meaning c.args.column-maps.now) in
-    let one = c.in-ok-program.field-0 in
+    let deals = dealt (map g.R.OwnerMap.meaning c.args.row_maps.now) (map g.C.OwnerMap.meaning c.args.column_maps.now) in
+    let one = c.in_ok-program.field-0 in
     let before = vec_items c.loop-board.programs in
     let after = vec_items c.push.new.self in
-    let pushed = c.in-ok-push.ensures.items in (
-      map_pushed before after one pushed one_board (map (board_of (shown c.args.nest.now) deals) (range_with_len 0 c.loop-board.board)) (board_of (shown c.args.nest.now) deals c.loop-board.board) c.loop-board.invariant.0 c.in-ok-program.ensures.whole
+    let pushed = c.in_ok-push.ensures.items in (
+      map_pushed before after one pushed one_board (map (board_of (shown c.args.nest.now) deals) (range_with_len 0 c.loop-board.board)) (board_of (shown c.args.nest.now) deals c.loop-board.board) c.loop-board.invariant.0 c.in_ok-program.ensures.whole
           ∙ sym (map-range_with_len_more (board_of (shown c.args.nest.now) deals) 0 c.loop-board.board c.loop-board.board (omega arith)),
-      all_pushed before after one pushed Small c.loop-board.invariant.1 c.in-ok-program.ensures.small,
+      all_pushed before after one pushed Small c.loop-board.invariant.1 c.in_ok-program.ensures.small,
     )
 
 pub returns : goal.returns
 returns g c =
-    let deals = dealt (map g.R.OwnerMap.meaning c.args.row-maps.now) (map g.C.OwnerMap.meaning c.args.column-maps.now) in
+    let deals = dealt (map g.R.OwnerMap.meaning c.args.row_maps.now) (map g.C.OwnerMap.meaning c.args.column_maps.now) in
     let end : c.loop-board.board ≡ boards_of c.args.nest.now.grid = omega (arith, c.loop-board-test.false, c.loop-board.auto.board-end, ap boards_of c.grid-grid.ensures) in
     record { whole = c.loop-board.invariant.0 ∙ ap (λ n. map (board_of (shown c.args.nest.now) deals) (range_with_len 0 n)) end; small = c.loop-board.invariant.1 }

@@ -7,5 +7,5 @@ use Rattle.compiler.proofs.boards.board_programs.Given as goal
 
 abbrev pub invariant-loop-board : goal.invariant-loop-board
 invariant-loop-board g l =
-    let deals = dealt (map g.R.OwnerMap.meaning l.row-maps) (map g.C.OwnerMap.meaning l.column-maps) in
+    let deals = dealt (map g.R.OwnerMap.meaning l.row_maps) (map g.C.OwnerMap.meaning l.column_maps) in
     (map one_board (vec_items l.programs) ≡ map (board_of (shown l.nest) deals) (range_with_len 0 l.board)) × All (λ b. b.steps ≤ 871200000) (vec_items l.programs)

@@ -9,8 +9,8 @@ use Rattle.compiler.proofs.compile.all_steps.Goals as goal
 abbrev Small : BoardProgram → Type 0
 Small b = b.steps ≤ 871200000
 
-pub overflow-add-steps : goal.overflow-add-steps
-overflow-add-steps c =
+pub overflow_add-steps : goal.overflow_add-steps
+overflow_add-steps c =
     let before = take c.loop-board.board-index c.args.boards.now in
     let short : length before ≡ c.loop-board.board-index = length-take-le c.loop-board.board-index c.args.boards.now c.loop-board.auto.board-index-end in
     let few = sum_by_le (λ (b : BoardProgram). b.steps) 871200000 before (All-take Small c.loop-board.board-index c.args.boards.now c.requires.1) in

@@ -9,7 +9,7 @@ use Rattle.compiler.proofs.compile.compile.Goals as goal
 pub returns : goal.returns
 returns g c =
     let sheet : Sheet = shown c.args.nest.now in
-    let deals : Deals = dealt (map g.R.OwnerMap.meaning c.args.row-maps.now) (map g.C.OwnerMap.meaning c.args.column-maps.now) in
-    let fits = c.if-not-maps-fit.ensures in
-    let sound = deals_sound g.R.OwnerMap.meaning g.C.OwnerMap.meaning g.met.R.OwnerMap.sound g.met.C.OwnerMap.sound c.args.row-maps.now c.args.column-maps.now in
-    record { answer = (fits, c.in-ok-program-of.ensures); laws = orders_cover sheet deals c.args.nest.now.kept fits sound }
+    let deals : Deals = dealt (map g.R.OwnerMap.meaning c.args.row_maps.now) (map g.C.OwnerMap.meaning c.args.column_maps.now) in
+    let fits = c.if-not-maps_fit.ensures in
+    let sound = deals_sound g.R.OwnerMap.meaning g.C.OwnerMap.meaning g.met.R.OwnerMap.sound g.met.C.OwnerMap.sound c.args.row_maps.now c.args.column_maps.now in
+    record { answer = (fits, c.in_ok-program_of.ensures); laws = orders_cover sheet deals c.args.nest.now.kept fits sound }

@@ -8,31 +8,31 @@ use Rattle.compiler.specs.Compiled.{program_of}
 use Rattle.compiler.proofs.Compiling.{same_program, few_boards, steps_of_all, boards_kept, tables_all}
 use Rattle.compiler.proofs.compile.program_of.Goals as goal
 
-pub all-steps-steps-requires : goal.all-steps-steps-requires
-all-steps-steps-requires g c =
+pub all_steps-steps-requires : goal.all_steps-steps-requires
+all_steps-steps-requires g c =
     let sheet : Sheet = shown c.args.nest.now in
-    let deals : Deals = dealt (map g.R.OwnerMap.meaning c.args.row-maps.now) (map g.C.OwnerMap.meaning c.args.column-maps.now) in
-    let boards = c.in-ok-boards.ensures in
-    let few = few_boards sheet deals (vec_items c.in-ok-boards.boards) boards.whole c.args.nest.now.kept in (
-      omega (arith, few, ap length c.as-slice.ensures.value),
-      subst (All (λ (b : BoardProgram). b.steps ≤ 871200000)) (sym c.as-slice.ensures.value) boards.small,
+    let deals : Deals = dealt (map g.R.OwnerMap.meaning c.args.row_maps.now) (map g.C.OwnerMap.meaning c.args.column_maps.now) in
+    let boards = c.in_ok-boards.ensures in
+    let few = few_boards sheet deals (vec_items c.in_ok-boards.boards) boards.whole c.args.nest.now.kept in (
+      omega (arith, few, ap length c.as_slice.ensures.value),
+      subst (All (λ (b : BoardProgram). b.steps ≤ 871200000)) (sym c.as_slice.ensures.value) boards.small,
     )
 
-pub invariant-of-result : goal.invariant-of-result
-invariant-of-result g c =
+pub invariant_of-result : goal.invariant_of-result
+invariant_of-result g c =
     let sheet : Sheet = shown c.args.nest.now in
-    let deals : Deals = dealt (map g.R.OwnerMap.meaning c.args.row-maps.now) (map g.C.OwnerMap.meaning c.args.column-maps.now) in
-    let copy : Sheet = shown c.in-ok-copy.copy in
-    let same = c.in-ok-copy.ensures in (
-      boards_kept sheet deals (vec_items c.in-ok-boards.boards) c.in-ok-boards.ensures.whole c.args.nest.now.kept copy same,
-      (tables_all sheet deals copy same (vec_items c.in-ok-totals.totals.pairs) c.in-ok-totals.ensures.pairs, tt),
+    let deals : Deals = dealt (map g.R.OwnerMap.meaning c.args.row_maps.now) (map g.C.OwnerMap.meaning c.args.column_maps.now) in
+    let copy : Sheet = shown c.in_ok-copy.copy in
+    let same = c.in_ok-copy.ensures in (
+      boards_kept sheet deals (vec_items c.in_ok-boards.boards) c.in_ok-boards.ensures.whole c.args.nest.now.kept copy same,
+      (tables_all sheet deals copy same (vec_items c.in_ok-totals.totals.pairs) c.in_ok-totals.ensures.pairs, tt),
     )
 
 pub returns : goal.returns
 returns g c =
     let sheet : Sheet = shown c.args.nest.now in
-    let deals : Deals = dealt (map g.R.OwnerMap.meaning c.args.row-maps.now) (map g.C.OwnerMap.meaning c.args.column-maps.now) in
-    let boards = c.in-ok-boards.ensures.whole in
-    let totals = c.in-ok-totals.ensures in
-    let steps = c.all-steps-steps.ensures ∙ ap (sum_by (λ (b : BoardProgram). b.steps)) c.as-slice.ensures.value ∙ steps_of_all sheet deals (vec_items c.in-ok-boards.boards) boards in
-    same_program _ (program_of sheet deals) c.in-ok-copy.ensures boards totals.pairs steps totals.letters totals.depth
+    let deals : Deals = dealt (map g.R.OwnerMap.meaning c.args.row_maps.now) (map g.C.OwnerMap.meaning c.args.column_maps.now) in
+    let boards = c.in_ok-boards.ensures.whole in
+    let totals = c.in_ok-totals.ensures in
+    let steps = c.all_steps-steps.ensures ∙ ap (sum_by (λ (b : BoardProgram). b.steps)) c.as_slice.ensures.value ∙ steps_of_all sheet deals (vec_items c.in_ok-boards.boards) boards in
+    same_program _ (program_of sheet deals) c.in_ok-copy.ensures boards totals.pairs steps totals.letters totals.depth

@@ -8,7 +8,7 @@ pub loop-statement-preserved : goal.loop-statement-preserved
 loop-statement-preserved c =
     let items = c.args.statements.now in
     let k = c.loop-statement.statement-index in
-    map_pushed (vec_items c.loop-statement.copies) (vec_items c.push.new.self) c.in-ok-statement-like.field-0 c.in-ok-push.ensures.items said (map said (take k items)) _ c.loop-statement.invariant (c.in-ok-statement-like.ensures ∙ ap said c.statement-item.is)
+    map_pushed (vec_items c.loop-statement.copies) (vec_items c.push.new.self) c.in_ok-statement_like.field-0 c.in_ok-push.ensures.items said (map said (take k items)) _ c.loop-statement.invariant (c.in_ok-statement_like.ensures ∙ ap said c.statement-item.is)
     ∙ sym (map_more said items k c.statement-item.result c.loop-statement-test.true)
 
 pub returns : goal.returns

@@ -5,8 +5,8 @@ use Rattle.compiler.proofs.depth.greatest_room.Goals as goal
 
 pub loop-to-preserved : goal.loop-to-preserved
 loop-to-preserved c =
-    folded_map_more max c.loop-from.greatest (room_of c.args.mode c.args.pairs.now.counts c.loop-from.from) c.loop-to.to c.room-for-room.result
-    c.loop-to.greatest c.max-greatest.result c.loop-to.invariant c.room-for-room.ensures c.max-greatest.ensures
+    folded_map_more max c.loop-from.greatest (room_of c.args.mode c.args.pairs.now.counts c.loop-from.from) c.loop-to.to c.room_for-room.result
+    c.loop-to.greatest c.max-greatest.result c.loop-to.invariant c.room_for-room.ensures c.max-greatest.ensures
 
 pub loop-from-preserved : goal.loop-from-preserved
 loop-from-preserved c =

@@ -7,5 +7,5 @@ use Rattle.compiler.proofs.letter_totals.letters_of.Given as goal
 
 abbrev pub invariant-loop-statement : goal.invariant-loop-statement
 invariant-loop-statement g l =
-    Counted (shown l.nest) (dealt (map g.R.OwnerMap.meaning l.row-maps) (map g.C.OwnerMap.meaning l.column-maps))
+    Counted (shown l.nest) (dealt (map g.R.OwnerMap.meaning l.row_maps) (map g.C.OwnerMap.meaning l.column_maps))
     (map said (take l.statement-index l.statements)) (vec_items l.pairs) l.letters l.depth

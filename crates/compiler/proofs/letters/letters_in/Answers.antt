@@ -7,32 +7,32 @@ use Rattle.compiler.proofs.LetterNotes.{at_most_wider}
 use Rattle.compiler.proofs.Tallying.{tallied_none, at_most_none, tallied_read, tallied_all, tallied_pairs}
 use Rattle.compiler.proofs.letters.letters_in.Goals as goal
 
-pub owners-of-target-requires : goal.owners-of-target-requires
-owners-of-target-requires g c =
+pub owners_of-target-requires : goal.owners_of-target-requires
+owners_of-target-requires g c =
     let s : Said = said c.args.statement.now in
     let short = short_ranges (vec_items c.args.nest.now.arrays) s c.requires.kept in
     record { fits = c.requires.fits; some = (short.0.1, short.1.1); reaches = target_reaches (vec_items c.args.nest.now.arrays) s c.requires.kept }
 
-pub owners-of-source-requires : goal.owners-of-source-requires
-owners-of-source-requires g c =
+pub owners_of-source-requires : goal.owners_of-source-requires
+owners_of-source-requires g c =
     let s : Said = said c.args.statement.now in
     let short = short_ranges (vec_items c.args.nest.now.arrays) s c.requires.kept in
     record {
       fits = c.requires.fits;
       some = (short.0.1, short.1.1);
-      reaches = read_reaches (vec_items c.args.nest.now.arrays) s c.requires.kept c.as-slice-reads.result.now c.as-slice-reads.ensures.value c.loop-read.read-index _ c.loop-read-test.true;
+      reaches = read_reaches (vec_items c.args.nest.now.arrays) s c.requires.kept c.as_slice-reads.result.now c.as_slice-reads.ensures.value c.loop-read.read-index _ c.loop-read-test.true;
     }
 
-pub note-read-requires : goal.note-read-requires
-note-read-requires g c =
+pub note_read-requires : goal.note_read-requires
+note_read-requires g c =
     let s : Said = said c.args.statement.now in
     let short = short_ranges (vec_items c.args.nest.now.arrays) s c.requires.kept in
     let few = few_reads (vec_items c.args.nest.now.arrays) s c.requires.kept in
-    let same : length c.as-slice-reads.result.now ≡ length s.reads = ap length c.as-slice-reads.ensures.value in
+    let same : length c.as_slice-reads.result.now ≡ length s.reads = ap length c.as_slice-reads.ensures.value in
     record {
       room = at_most_wider (1024 * c.loop-read.read-index) 3072 c.loop-read.count (omega (arith, c.loop-read-test.true)) c.loop-read.invariant.1;
       short = short;
-      answer = λ e w. ((c.owners-of-source.ensures e w).0, (c.owners-of-target.ensures e w).0);
+      answer = λ e w. ((c.owners_of-source.ensures e w).0, (c.owners_of-target.ensures e w).0);
     }
 
 pub loop-read-init : goal.loop-read-init
@@ -40,19 +40,19 @@ loop-read-init g c = (tallied_none c.none-count.result c.none-count.ensures, at_
 
 pub loop-read-preserved : goal.loop-read-preserved
 loop-read-preserved g c =
-    let deals : Deals = dealt (map g.R.OwnerMap.meaning c.args.row-maps.now) (map g.C.OwnerMap.meaning c.args.column-maps.now) in (
-      tallied_read c.args.nest.now.grid.rows deals (said c.args.statement.now) c.owners-of-source.result c.owners-of-target.result c.as-slice-reads.result.now c.loop-read.read-index _
-          c.loop-read.count c.note-read.new.count c.loop-read-test.true c.owners-of-source.ensures c.owners-of-target.ensures c.loop-read.invariant.0 c.note-read.ensures.noted,
-      at_most_wider (1024 * c.loop-read.read-index + 1024) _ c.note-read.new.count (omega arith) (c.note-read.ensures.room (1024 * c.loop-read.read-index) c.loop-read.invariant.1),
+    let deals : Deals = dealt (map g.R.OwnerMap.meaning c.args.row_maps.now) (map g.C.OwnerMap.meaning c.args.column_maps.now) in (
+      tallied_read c.args.nest.now.grid.rows deals (said c.args.statement.now) c.owners_of-source.result c.owners_of-target.result c.as_slice-reads.result.now c.loop-read.read-index _
+          c.loop-read.count c.note_read.new.count c.loop-read-test.true c.owners_of-source.ensures c.owners_of-target.ensures c.loop-read.invariant.0 c.note_read.ensures.noted,
+      at_most_wider (1024 * c.loop-read.read-index + 1024) _ c.note_read.new.count (omega arith) (c.note_read.ensures.room (1024 * c.loop-read.read-index) c.loop-read.invariant.1),
     )
 
 pub returns : goal.returns
 returns g c =
-    let deals : Deals = dealt (map g.R.OwnerMap.meaning c.args.row-maps.now) (map g.C.OwnerMap.meaning c.args.column-maps.now) in
+    let deals : Deals = dealt (map g.R.OwnerMap.meaning c.args.row_maps.now) (map g.C.OwnerMap.meaning c.args.column_maps.now) in
     let s : Said = said c.args.statement.now in
     let few = few_reads (vec_items c.args.nest.now.arrays) s c.requires.kept in
-    let same : length c.as-slice-reads.result.now ≡ length s.reads = ap length c.as-slice-reads.ensures.value in
-    let all = tallied_all c.args.nest.now.grid.rows deals s c.as-slice-reads.result.now c.loop-read.read-index c.loop-read.count c.as-slice-reads.ensures.value c.loop-read-test.false c.loop-read.invariant.0 in
+    let same : length c.as_slice-reads.result.now ≡ length s.reads = ap length c.as_slice-reads.ensures.value in
+    let all = tallied_all c.args.nest.now.grid.rows deals s c.as_slice-reads.result.now c.loop-read.read-index c.loop-read.count c.as_slice-reads.ensures.value c.loop-read-test.false c.loop-read.invariant.0 in
     record {
       pairs = tallied_pairs c.loop-read.count _ all;
       all = all.1;

@@ -10,5 +10,5 @@ use Rattle.compiler.proofs.letters.letters_in.Given as goal
 
 abbrev pub invariant-loop-read : goal.invariant-loop-read
 invariant-loop-read g l =
-    Tallied l.count (flat_map (letters_for (seat l.nest.grid.rows (dealt (map g.R.OwnerMap.meaning l.row-maps) (map g.C.OwnerMap.meaning l.column-maps)) 0) (said l.statement)) (take l.read-index l.reads))
+    Tallied l.count (flat_map (letters_for (seat l.nest.grid.rows (dealt (map g.R.OwnerMap.meaning l.row_maps) (map g.C.OwnerMap.meaning l.column_maps)) 0) (said l.statement)) (take l.read-index l.reads))
     × AtMost (1024 * l.read-index) l.count

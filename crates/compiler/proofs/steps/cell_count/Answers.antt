@@ -3,6 +3,6 @@ use Rattle.compiler.proofs.steps.cell_count.Goals as goal
 
 pub returns : goal.returns
 returns c = record {
-  value = ap₂ (λ m n. m * n) c.width-of.ensures.value c.width-of-2.ensures.value;
-  small = mul-le-mul c.width-of.ensures.small c.width-of-2.ensures.small;
+  value = ap₂ (λ m n. m * n) c.width_of.ensures.value c.width_of-2.ensures.value;
+  small = mul-le-mul c.width_of.ensures.small c.width_of-2.ensures.small;
 }

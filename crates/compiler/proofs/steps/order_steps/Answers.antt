@@ -5,9 +5,9 @@ use Rattle.compiler.proofs.steps.order_steps.Goals as goal
 
 pub returns : goal.returns
 returns c = record {
-  value = ap₂ (λ m n. m * n) c.cell-count.ensures.value c.task-count.ensures.value;
-  small = mul-le-mul c.cell-count.ensures.small c.task-count.ensures.small;
+  value = ap₂ (λ m n. m * n) c.cell_count.ensures.value c.task_count.ensures.value;
+  small = mul-le-mul c.cell_count.ensures.small c.task_count.ensures.small;
 }
 
-pub task-count-requires : goal.task-count-requires
-task-count-requires c = record { there = omega (arith, c.requires.short.0, length-map c.args.statements.now said); few = c.requires.few }
+pub task_count-requires : goal.task_count-requires
+task_count-requires c = record { there = omega (arith, c.requires.short.0, length-map c.args.statements.now said); few = c.requires.few }

@@ -4,8 +4,8 @@ use Rattle.compiler.specs.StepCounts.{read_counts, task_count}
 use Rattle.compiler.proofs.StepNumbers.{reads_at}
 use Rattle.compiler.proofs.steps.task_count.Goals as goal
 
-pub overflow-add-result : goal.overflow-add-result
-overflow-add-result c =
+pub overflow_add-result : goal.overflow_add-result
+overflow_add-result c =
     let r = reads_at c.args.statements.now c.args.number c.index-statements-number.result c.len.result c.requires.there c.requires.few c.len.ensures in
     omega (arith, r.1)
 

@@ -10,20 +10,20 @@ together reads = simp append_assoc
 
 pub loop-shipped-preserved : goal.loop-shipped-preserved
 loop-shipped-preserved c =
-    mapped_more Ship [] c.as-slice-reads.result.now c.loop-shipped.shipped-index _ (vec_items c.loop-shipped.tasks) (vec_items c.push.new.self) _ c.loop-shipped-test.true c.in-ok-push.ensures.items refl c.loop-shipped.invariant
+    mapped_more Ship [] c.as_slice-reads.result.now c.loop-shipped.shipped-index _ (vec_items c.loop-shipped.tasks) (vec_items c.push.new.self) _ c.loop-shipped-test.true c.in_ok-push.ensures.items refl c.loop-shipped.invariant
 
 pub loop-added-init : goal.loop-added-init
 loop-added-init c =
-    let all = mapped_all Ship [] c.as-slice-reads.result.now c.loop-shipped.shipped-index (vec_items c.loop-shipped.tasks) c.loop-shipped-test.false c.loop-shipped.invariant in
-    c.in-ok-push-2.ensures.items ∙ ap (λ us. us ++ Base ∷ []) all ∙ sym (append-nil (map Ship c.as-slice-reads.result.now ++ Base ∷ []))
+    let all = mapped_all Ship [] c.as_slice-reads.result.now c.loop-shipped.shipped-index (vec_items c.loop-shipped.tasks) c.loop-shipped-test.false c.loop-shipped.invariant in
+    c.in_ok-push-2.ensures.items ∙ ap (λ us. us ++ Base ∷ []) all ∙ sym (append-nil (map Ship c.as_slice-reads.result.now ++ Base ∷ []))
 
 pub loop-added-preserved : goal.loop-added-preserved
 loop-added-preserved c =
-    let reads = c.as-slice-reads.result.now in
-    mapped_more Add (map Ship reads ++ Base ∷ []) reads c.loop-added.added-index _ (vec_items c.loop-added.tasks) (vec_items c.push-in-loop-added.new.self) _ c.loop-added-test.true c.in-ok-push-3.ensures.items refl c.loop-added.invariant
+    let reads = c.as_slice-reads.result.now in
+    mapped_more Add (map Ship reads ++ Base ∷ []) reads c.loop-added.added-index _ (vec_items c.loop-added.tasks) (vec_items c.push-in-loop-added.new.self) _ c.loop-added-test.true c.in_ok-push-3.ensures.items refl c.loop-added.invariant
 
 pub returns : goal.returns
 returns c =
-    let reads = c.as-slice-reads.result.now in
+    let reads = c.as_slice-reads.result.now in
     let all = mapped_all Add (map Ship reads ++ Base ∷ []) reads c.loop-added.added-index (vec_items c.loop-added.tasks) c.loop-added-test.false c.loop-added.invariant in
-    c.in-ok-push-4.ensures.items ∙ ap (λ us. us ++ Store ∷ []) all ∙ together reads ∙ ap (λ rs. map Ship rs ++ (Base ∷ (map Add rs ++ (Store ∷ [])))) c.as-slice-reads.ensures.value
+    c.in_ok-push-4.ensures.items ∙ ap (λ us. us ++ Store ∷ []) all ∙ together reads ∙ ap (λ rs. map Ship rs ++ (Base ∷ (map Add rs ++ (Store ∷ [])))) c.as_slice-reads.ensures.value

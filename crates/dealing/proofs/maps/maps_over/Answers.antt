@@ -9,8 +9,8 @@ use Rattle.dealing.specs.Words.{deal_over}
 use Rattle.dealing.proofs.Kept.{dealable}
 use Rattle.dealing.proofs.maps.maps_over.Goals as goal
 
-pub map-over-requires : goal.map-over-requires
-map-over-requires c =
+pub map_over-requires : goal.map_over-requires
+map_over-requires c =
     let s = shown c.args.nest.now in
     let p = nest_parts s.grid s.arrays s.sweeps s.statements c.args.nest.now.kept in
     let arrays : each array_kept c.arrays-array-items.result.now ≡ true = subst (λ l. each array_kept l ≡ true) (sym c.arrays-array-items.ensures) p.each_array in
@@ -20,9 +20,9 @@ map-over-requires c =
 pub loop-array-preserved : goal.loop-array-preserved
 loop-array-preserved c =
     let deal = deal_over c.args.dimension c.grid-grid.result in
-    ap (map runs_deal) c.in-ok-push.ensures.items
-    ∙ map_push runs_deal (vec_items c.loop-array.maps) c.map-over.result
-    ∙ (λ i. c.loop-array.invariant i ++ c.map-over.ensures i ∷ [])
+    ap (map runs_deal) c.in_ok-push.ensures.items
+    ∙ map_push runs_deal (vec_items c.loop-array.maps) c.map_over.result
+    ∙ (λ i. c.loop-array.invariant i ++ c.map_over.ensures i ∷ [])
     ∙ sym (map_more deal c.arrays-array-items.result.now c.loop-array.array-index nowhere c.loop-array-test.true)
 
 pub returns : goal.returns

@@ -1,5 +1,5 @@
 use Rattle.std.proofs.lemmas.Result.{IfOk-from_err}
 use Rattle.facetribbon.proofs.input.sheet_bytes.Goals as goal
 
-pub returns-in-err-count : goal.returns-in-err-count
-returns-in-err-count c = IfOk-from_err _ _ c.from-residual-in-err-count.ensures.0
+pub returns-in_err-count : goal.returns-in_err-count
+returns-in_err-count c = IfOk-from_err _ _ c.from_residual-in_err-count.ensures.0

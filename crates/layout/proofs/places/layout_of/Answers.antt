@@ -6,11 +6,11 @@ use Rattle.layout.proofs.places.layout_of.Goals as goal
 pub loop-t-init : goal.loop-t-init
 loop-t-init c = (refl, sym (start_none c.args.arrays.now), λ k h. absurd (omega arith))
 
-pub overflow-mul-total : goal.overflow-mul-total
-overflow-mul-total c = omega (arith, size_small c.args.arrays.now c.requires.1 c.loop-t.t)
+pub overflow_mul-total : goal.overflow_mul-total
+overflow_mul-total c = omega (arith, size_small c.args.arrays.now c.requires.1 c.loop-t.t)
 
-pub overflow-add-total : goal.overflow-add-total
-overflow-add-total c = omega (arith, c.loop-t.invariant.1, sum_room c.args.arrays.now c.loop-t.t c.requires.0 c.requires.1 c.loop-t-test.true)
+pub overflow_add-total : goal.overflow_add-total
+overflow_add-total c = omega (arith, c.loop-t.invariant.1, sum_room c.args.arrays.now c.loop-t.t c.requires.0 c.requires.1 c.loop-t-test.true)
 
 pub loop-t-preserved : goal.loop-t-preserved
 loop-t-preserved c =
@@ -20,8 +20,8 @@ loop-t-preserved c =
       begun_more c.args.arrays.now c.loop-t.starts c.loop-t.t c.loop-t.total room c.loop-t.invariant.2 c.loop-t.invariant.1,
     )
 
-pub invariant-of-result : goal.invariant-of-result
-invariant-of-result c =
+pub invariant_of-result : goal.invariant_of-result
+invariant_of-result c =
     let end : c.loop-t.t ≡ length c.args.arrays.now = omega (arith, c.loop-t-test.false, c.loop-t.auto.t-end) in (
       c.requires.0,
       (c.requires.1, (λ k h. c.loop-t.invariant.2 k (omega arith), (c.loop-t.invariant.1 ∙ ap (start_of c.args.arrays.now) end ∙ start_all c.args.arrays.now, tt))),

@@ -5,9 +5,9 @@ use Rattle.network.proofs.relay.relayed.Goals as goal
 
 pub returns : goal.returns
 returns c =
-    let x = c.in-ok-relay.relay in
-    let y = c.run-until-quiet.new.boards in
-    let e = c.run-until-quiet.ensures in
-    let told = c.in-ok-relay.ensures in
+    let x = c.in_ok-relay.relay in
+    let y = c.run_until_quiet.new.boards in
+    let e = c.run_until_quiet.ensures in
+    let told = c.in_ok-relay.ensures in
     let made : MadeOf c.args.values.now x.count x.stations x.letters = search rules in
     relayed_by c.args.values.now x.count x.stations x.letters made y.count y.stations y.letters _ e.went_round e.same_network (omega arith) c.result.result c.result.ensures

@@ -4,8 +4,8 @@ use Rattle.network.proofs.ring.pass_round.Goals as goal
 
 pub returns : goal.returns
 returns c =
-    let kept = c.run-until-quiet.ensures.same_lent in
+    let kept = c.run_until_quiet.ensures.same_lent in
     let first = first_same kept in
     let second = second_same kept in
-    let went = c.run-until-quiet.ensures.went_round in
+    let went = c.run_until_quiet.ensures.went_round in
     (search rules, went_as (length c.args.seats.now) went (search rules) (search rules) (search rules) (search rules))

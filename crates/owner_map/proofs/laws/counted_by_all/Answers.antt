@@ -4,18 +4,18 @@ use Rattle.owner_map.specs.Meaning.{Deal, Board, Bound, below, sum_over}
 use Rattle.owner_map.specs.Deals.{below_le, counts_add_up, sum_over_more}
 use Rattle.owner_map.proofs.laws.counted_by_all.Goals as goal
 
-pub returns-in-err-total : goal.returns-in-err-total
-returns-in-err-total g c =
+pub returns-in_err-total : goal.returns-in_err-total
+returns-in_err-total g c =
     let d : Deal = g.M.OwnerMap.meaning c.args.map.now in
-    let refused = err_from_is_err_and c.from-residual.result c.from-residual.ensures.1 in
-    let why = c.in-err-total.ensures in
+    let refused = err_from_is_err_and c.from_residual.result c.from_residual.ensures.1 in
+    let why = c.in_err-total.ensures in
     let board : Board d c.loop-board.board = omega arith in
     record { answer = rw (refused.1, refused.2) (λ on. why.0 (board, on), why.1); law = counts_add_up d (g.met.M.OwnerMap.sound c.args.map.now) }
 
-pub overflow-add-total : goal.overflow-add-total
-overflow-add-total g c =
+pub overflow_add-total : goal.overflow_add-total
+overflow_add-total g c =
     let d : Deal = g.M.OwnerMap.meaning c.args.map.now in
-    let one = c.in-ok-total.ensures in
+    let one = c.in_ok-total.ensures in
     let most = below_le d c.loop-board.board c.args.bound in
     let sound = g.met.M.OwnerMap.sound c.args.map.now in
     omega arith
@@ -23,7 +23,7 @@ overflow-add-total g c =
 pub loop-board-preserved : goal.loop-board-preserved
 loop-board-preserved g c =
     let d : Deal = g.M.OwnerMap.meaning c.args.map.now in
-    let one = c.in-ok-total.ensures in
+    let one = c.in_ok-total.ensures in
     let most = below_le d c.loop-board.board c.args.bound in
     let sound = g.met.M.OwnerMap.sound c.args.map.now in
     let more = sum_over_more c.loop-board.board (λ b. below d b c.args.bound) in

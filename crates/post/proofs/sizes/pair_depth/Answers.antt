@@ -3,15 +3,15 @@ use native.Mathlib.Nat.{mul-div-le}
 use Rattle.post.specs.Made.{depth_for}
 use Rattle.post.proofs.sizes.pair_depth.Goals as goal
 
-pub nonzero-div-size : goal.nonzero-div-size
-nonzero-div-size c =
-    let some : 1 ≤ c.served-boards-boards.result = omega (arith, c.served-boards-boards.ensures) in
+pub nonzero_div-size : goal.nonzero_div-size
+nonzero_div-size c =
+    let some : 1 ≤ c.served_boards-boards.result = omega (arith, c.served_boards-boards.ensures) in
     mul-pos some some
 
 pub returns : goal.returns
 returns c =
-    let boards = c.served-boards-boards.result in
-    let served = c.served-boards-boards.ensures in
+    let boards = c.served_boards-boards.result in
+    let served = c.served_boards-boards.ensures in
     let shallow : c.min.result ≤ 4096 = omega (arith, c.min.ensures) in
     let part : c.min.result ≤ c.args.size / (boards * boards) = omega (arith, c.min.ensures) in
     record {

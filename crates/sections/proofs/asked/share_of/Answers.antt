@@ -7,6 +7,6 @@ use Rattle.sections.proofs.asked.share_of.Goals as goal
 pub returns : goal.returns
 returns g c =
     let d : Deal = g.M.OwnerMap.meaning c.args.map.now in
-    let answer = subst (Given (Board d c.args.board) (λ n. n ≡ share d c.args.board)) c.unwrap.ensures c.owned-count.ensures.answer in
+    let answer = subst (Given (Board d c.args.board) (λ n. n ≡ share d c.args.board)) c.unwrap.ensures c.owned_count.ensures.answer in
     let sound = g.met.M.OwnerMap.sound c.args.map.now in
     record { value = answer.1; small = omega (arith, answer.1, below_le d c.args.board (extent d + 1), sound.3) }

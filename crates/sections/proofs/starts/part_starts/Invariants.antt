@@ -5,10 +5,10 @@ use Rattle.sections.proofs.starts.part_starts.Given as goal
 
 abbrev pub invariant-loop-board : goal.invariant-loop-board
 invariant-loop-board g l =
-    let deals = dealt (map g.R.OwnerMap.meaning l.row-maps) (map g.C.OwnerMap.meaning l.column-maps) in
+    let deals = dealt (map g.R.OwnerMap.meaning l.row_maps) (map g.C.OwnerMap.meaning l.column_maps) in
     (length l.starts ≡ 32) × (l.next ≡ part_at l.grid.rows deals l.board 0) × BegunTo l.grid.rows deals l.starts l.board 0
 
 abbrev pub invariant-loop-array : goal.invariant-loop-array
 invariant-loop-array g l =
-    let deals = dealt (map g.R.OwnerMap.meaning l.row-maps) (map g.C.OwnerMap.meaning l.column-maps) in
+    let deals = dealt (map g.R.OwnerMap.meaning l.row_maps) (map g.C.OwnerMap.meaning l.column_maps) in
     (length l.starts ≡ 32) × (l.next ≡ part_at l.grid.rows deals l.board l.array) × BegunTo l.grid.rows deals l.starts l.board l.array

@@ -5,7 +5,7 @@ use Rattle.sections.proofs.tabling.written_places.Goals as goal
 
 pub loop-before-preserved : goal.loop-before-preserved
 loop-before-preserved g c =
-    places_written (g.M.OwnerMap.meaning c.args.map.now) (g.met.M.OwnerMap.sound c.args.map.now) c.loop-before.before (omega (arith, c.loop-before-test.true, c.length-before-end.ensures)) c.loop-before.owners c.loop-before.ranks c.loop-before.positions c.place-of-owner.result.0 c.place-of-owner.result.1 c.place-of-owner.ensures.owner c.place-of-owner.ensures.rank c.loop-before.invariant
+    places_written (g.M.OwnerMap.meaning c.args.map.now) (g.met.M.OwnerMap.sound c.args.map.now) c.loop-before.before (omega (arith, c.loop-before-test.true, c.length-before-end.ensures)) c.loop-before.owners c.loop-before.ranks c.loop-before.positions c.place_of-owner.result.0 c.place_of-owner.result.1 c.place_of-owner.ensures.owner c.place_of-owner.ensures.rank c.loop-before.invariant
 
 pub returns : goal.returns
 returns g c =

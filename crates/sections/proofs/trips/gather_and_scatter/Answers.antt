@@ -8,8 +8,8 @@ use Rattle.sections.proofs.trips.gather_and_scatter.Goals as goal
 pub returns : goal.returns
 returns g c =
     let sheet : Sheet = shown c.args.nest.now in
-    let deals : Deals = dealt (map g.R.OwnerMap.meaning c.args.row-maps.now) (map g.C.OwnerMap.meaning c.args.column-maps.now) in
-    let first = c.in-ok-gather.ensures in
+    let deals : Deals = dealt (map g.R.OwnerMap.meaning c.args.row_maps.now) (map g.C.OwnerMap.meaning c.args.column_maps.now) in
+    let first = c.in_ok-gather.ensures in
     let long = first.answer.1 in
     record {
       back = anyway sheet deals first.answer.0 _ _ _ _ _ (λ moved. first.undone c.scatter.new.sections c.scatter.auto.sections moved) (λ same. same) c.scatter.result c.scatter.ensures.answer;

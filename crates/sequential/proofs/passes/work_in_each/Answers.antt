@@ -9,8 +9,8 @@ pub loop-j-preserved : goal.loop-j-preserved
 loop-j-preserved g c = λ d.
     row_more (doing c.args.work (setting_of g.T.NumberKind.sum g.T.NumberKind.product c.args.coefficients.now c.args.layout.now.arrays.now d) (said c.args.statement.now))
     (buffers_of c.loop-i.elements c.loop-i.held) c.loop-i.i c.args.statement.now.j c.loop-j.j
-    (buffers_of c.loop-j.elements c.loop-j.held) (buffers_of c.work-in.new.elements c.work-in.new.held)
-    (omega arith) (c.loop-j.invariant d) (c.work-in.ensures d)
+    (buffers_of c.loop-j.elements c.loop-j.held) (buffers_of c.work_in.new.elements c.work_in.new.held)
+    (omega arith) (c.loop-j.invariant d) (c.work_in.ensures d)
 
 pub loop-i-preserved : goal.loop-i-preserved
 loop-i-preserved g c = λ d.

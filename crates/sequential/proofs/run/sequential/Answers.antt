@@ -8,8 +8,8 @@ use Rattle.sequential.proofs.run.sequential.Goals as goal
 pub loop-init : goal.loop-init
 loop-init g c = λ d. refl
 
-pub run-sweep-requires : goal.run-sweep-requires
-run-sweep-requires g c =
+pub run_sweep-requires : goal.run_sweep-requires
+run_sweep-requires g c =
     nest_ready c.args.nest.now.grid (vec_items c.args.nest.now.arrays) c.new-layout.result.arrays.now c.args.nest.now.sweeps (said_all c.args.nest.now.statements) _
     (length c.args.coefficients.now) (length c.loop.arrays) (length c.loop.held) c.total-total.result
     c.args.nest.now.kept c.new-layout.ensures c.statements.ensures c.if-coefficients-ne8.false c.total-total.ensures.value
@@ -19,8 +19,8 @@ pub loop-preserved : goal.loop-preserved
 loop-preserved g c = λ d.
     sweeps_more g.T.NumberKind.sum g.T.NumberKind.product c.args.coefficients.now d (vec_items c.args.nest.now.arrays) c.new-layout.result.arrays.now
     (said_all c.args.nest.now.statements) _ c.loop.counter (buffers_of c.args.arrays.now c.args.held.now)
-    (buffers_of c.loop.arrays c.loop.held) (buffers_of c.run-sweep.new.elements c.run-sweep.new.held)
-    c.new-layout.ensures c.statements.ensures (c.loop.invariant d) (c.run-sweep.ensures d)
+    (buffers_of c.loop.arrays c.loop.held) (buffers_of c.run_sweep.new.elements c.run_sweep.new.held)
+    c.new-layout.ensures c.statements.ensures (c.loop.invariant d) (c.run_sweep.ensures d)
 
 pub returns : goal.returns
 returns g c =

@@ -8,8 +8,8 @@ use Rattle.sequential.proofs.statements.run_sweep.Goals as goal
 pub loop-statement-init : goal.loop-statement-init
 loop-statement-init g c = λ d. refl
 
-pub run-statement-requires : goal.run-statement-requires
-run-statement-requires g c =
+pub run_statement-requires : goal.run_statement-requires
+run_statement-requires g c =
     statement_ready c.args.layout.now.arrays.now c.args.statements.now c.loop-statement.statement-index c.statement-item.result
     (length c.args.coefficients.now) (length c.args.elements.now) (length c.args.held.now) (length c.loop-statement.elements) (length c.loop-statement.held)
     c.requires c.loop-statement-test.true c.statement-item.is c.loop-statement.auto.elements c.loop-statement.auto.held
@@ -18,8 +18,8 @@ pub loop-statement-preserved : goal.loop-statement-preserved
 loop-statement-preserved g c = λ d.
     sweep_more (after_statement (setting_of g.T.NumberKind.sum g.T.NumberKind.product c.args.coefficients.now c.args.layout.now.arrays.now d))
     (buffers_of c.args.elements.now c.args.held.now) c.args.statements.now c.loop-statement.statement-index c.statement-item.result
-    (buffers_of c.loop-statement.elements c.loop-statement.held) (buffers_of c.run-statement.new.elements c.run-statement.new.held)
-    c.loop-statement-test.true c.statement-item.is (c.loop-statement.invariant d) (c.run-statement.ensures d)
+    (buffers_of c.loop-statement.elements c.loop-statement.held) (buffers_of c.run_statement.new.elements c.run_statement.new.held)
+    c.loop-statement-test.true c.statement-item.is (c.loop-statement.invariant d) (c.run_statement.ensures d)
 
 pub returns : goal.returns
 returns g c = λ d.

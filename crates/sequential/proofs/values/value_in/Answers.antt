@@ -12,31 +12,31 @@ loop-term-init g c =
     (base_below c.args.layout.now.arrays.now (said c.args.statement.now) (parts_of _ _ c.requires.ready.kept) _ c.requires.ready.eight)
     c.index-coefficients-statement.is
 
-pub place-in-requires : goal.place-in-requires
-place-in-requires g c =
+pub place_in-requires : goal.place_in-requires
+place_in-requires g c =
     read_reached c.args.layout.now.arrays.now (said c.args.statement.now) (parts_of _ _ c.requires.ready.kept) c.args.at c.requires.within
-    c.as-slice-reads.result.now c.as-slice-reads.ensures.value c.loop-term.term-index _ c.loop-term-test.true
+    c.as_slice-reads.result.now c.as_slice-reads.ensures.value c.loop-term.term-index _ c.loop-term-test.true
 
-pub offset-bounds-coefficients-term : goal.offset-bounds-coefficients-term
-offset-bounds-coefficients-term g c =
-    le_of_lt (read_coefficient c.args.layout.now.arrays.now (said c.args.statement.now) (parts_of _ _ c.requires.ready.kept) c.as-slice-reads.result.now c.as-slice-reads.ensures.value c.loop-term.term-index _ _ c.requires.ready.eight c.loop-term-test.true)
+pub offset_bounds-coefficients-term : goal.offset_bounds-coefficients-term
+offset_bounds-coefficients-term g c =
+    le_of_lt (read_coefficient c.args.layout.now.arrays.now (said c.args.statement.now) (parts_of _ _ c.requires.ready.kept) c.as_slice-reads.result.now c.as_slice-reads.ensures.value c.loop-term.term-index _ _ c.requires.ready.eight c.loop-term-test.true)
 
 pub bounds-coefficients-term : goal.bounds-coefficients-term
 bounds-coefficients-term g c =
-    read_coefficient c.args.layout.now.arrays.now (said c.args.statement.now) (parts_of _ _ c.requires.ready.kept) c.as-slice-reads.result.now c.as-slice-reads.ensures.value c.loop-term.term-index _ _ c.requires.ready.eight c.loop-term-test.true
+    read_coefficient c.args.layout.now.arrays.now (said c.args.statement.now) (parts_of _ _ c.requires.ready.kept) c.as_slice-reads.result.now c.as_slice-reads.ensures.value c.loop-term.term-index _ _ c.requires.ready.eight c.loop-term-test.true
 
 pub loop-term-preserved : goal.loop-term-preserved
 loop-term-preserved g c = λ d.
     value_more (setting_of g.T.NumberKind.sum g.T.NumberKind.product c.args.coefficients.now c.args.layout.now.arrays.now d)
-    c.args.elements.now c.args.at (get_or c.args.coefficients.now c.args.statement.now.base d) c.as-slice-reads.result.now c.loop-term.term-index _
-    c.place_in_lem.result c.index-elements-place-in.result c.index-coefficients-term.result c.times.result c.loop-term.value c.plus-value.result
-    c.loop-term-test.true (c.loop-term.invariant d) c.place_in_lem.ensures.place (omega (arith, c.place_in_lem.ensures.below)) c.index-elements-place-in.is
-    (read_coefficient c.args.layout.now.arrays.now (said c.args.statement.now) (parts_of _ _ c.requires.ready.kept) c.as-slice-reads.result.now c.as-slice-reads.ensures.value c.loop-term.term-index _ _ c.requires.ready.eight c.loop-term-test.true)
+    c.args.elements.now c.args.at (get_or c.args.coefficients.now c.args.statement.now.base d) c.as_slice-reads.result.now c.loop-term.term-index _
+    c.place_in_lem.result c.index-elements-place_in.result c.index-coefficients-term.result c.times.result c.loop-term.value c.plus-value.result
+    c.loop-term-test.true (c.loop-term.invariant d) c.place_in_lem.ensures.place (omega (arith, c.place_in_lem.ensures.below)) c.index-elements-place_in.is
+    (read_coefficient c.args.layout.now.arrays.now (said c.args.statement.now) (parts_of _ _ c.requires.ready.kept) c.as_slice-reads.result.now c.as_slice-reads.ensures.value c.loop-term.term-index _ _ c.requires.ready.eight c.loop-term-test.true)
     c.index-coefficients-term.is c.times.ensures c.plus-value.ensures
 
 pub returns : goal.returns
 returns g c = λ d.
     let k = setting_of g.T.NumberKind.sum g.T.NumberKind.product c.args.coefficients.now c.args.layout.now.arrays.now d in
-    let reads = c.as-slice-reads.result.now in
+    let reads = c.as_slice-reads.result.now in
     c.loop-term.invariant d
-    ∙ ap (fold (with_term k c.args.elements.now c.args.at) (get_or c.args.coefficients.now c.args.statement.now.base d)) (take_all c.loop-term.term-index reads c.loop-term-test.false ∙ c.as-slice-reads.ensures.value)
+    ∙ ap (fold (with_term k c.args.elements.now c.args.at) (get_or c.args.coefficients.now c.args.statement.now.base d)) (take_all c.loop-term.term-index reads c.loop-term-test.false ∙ c.as_slice-reads.ensures.value)

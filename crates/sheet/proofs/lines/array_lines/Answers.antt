@@ -7,16 +7,16 @@ use Rattle.sheet.specs.Lines.{line_by}
 use Rattle.sheet.proofs.Repeats.{Past, past_more, past_refused}
 use Rattle.sheet.proofs.lines.array_lines.Goals as goal
 
-pub returns-in-err-array-line : goal.returns-in-err-array-line
-returns-in-err-array-line c =
-    let p = err_from_is_err_and c.from-residual.result c.from-residual.ensures.1 in
+pub returns-in_err-array_line : goal.returns-in_err-array_line
+returns-in_err-array_line c =
+    let p = err_from_is_err_and c.from_residual.result c.from_residual.ensures.1 in
     let few : length (vec_items c.lines.arrays) < c.args.count = omega (arith, c.lines.arrays.ok.0, c.len.ensures) in
-    rw (p.1, p.2) (λ _. past_refused _ _ _ _ _ c.lines.invariant.1 _ _ _ few c.in-err-array-line.ensures)
+    rw (p.1, p.2) (λ _. past_refused _ _ _ _ _ c.lines.invariant.1 _ _ _ few c.in_err-array_line.ensures)
 
 pub lines-preserved : goal.lines-preserved
 lines-preserved c =
     let few : length (vec_items c.lines.arrays) < c.args.count = omega (arith, c.lines.arrays.ok.0, c.len.ensures) in (
-      omega (arith, c.in-ok-push.ensures.len, c.len.ensures),
-      subst (λ l. Past c.args.count (line_by array_form array_of) (before c.args.cursor.now) l (before c.array-line.new.cursor)) (sym c.in-ok-push.ensures.items)
-          (past_more _ _ _ _ _ c.lines.invariant.1 _ _ few c.in-ok-array-line.ensures),
+      omega (arith, c.in_ok-push.ensures.len, c.len.ensures),
+      subst (λ l. Past c.args.count (line_by array_form array_of) (before c.args.cursor.now) l (before c.array_line.new.cursor)) (sym c.in_ok-push.ensures.items)
+          (past_more _ _ _ _ _ c.lines.invariant.1 _ _ few c.in_ok-array_line.ensures),
     )

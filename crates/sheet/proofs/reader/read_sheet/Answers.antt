@@ -9,23 +9,23 @@ use Rattle.sheet.proofs.Kept.{sheet_kept}
 use Rattle.sheet.proofs.Outcomes.{answer_inside, answer_lines, answer_fault}
 use Rattle.sheet.proofs.reader.read_sheet.Goals as goal
 
-pub invariant-of-result : goal.invariant-of-result
-invariant-of-result c = (
-  sheet_kept (start c.args.bytes.now) (parted c.in-ok-grid.field-0) (before c.parts_of.new.cursor)
-      (sym (c.in-ok-grid.ensures refl ∙ ap lines_of c.new-cursor.ensures)),
+pub invariant_of-result : goal.invariant_of-result
+invariant_of-result c = (
+  sheet_kept (start c.args.bytes.now) (parted c.in_ok-grid.field-0) (before c.parts_of.new.cursor)
+      (sym (c.in_ok-grid.ensures refl ∙ ap lines_of c.new-cursor.ensures)),
   tt,
 )
 
-pub returns-in-err-grid : goal.returns-in-err-grid
-returns-in-err-grid c =
+pub returns-in_err-grid : goal.returns-in_err-grid
+returns-in_err-grid c =
     let bytes = c.args.bytes.now in
-    let r = c.from-residual.result in
+    let r = c.from_residual.result in
     let exact : lost r ≡ false → sheet_verdict shown r ≡ verdict_on bytes = search rules in
     record { answer = exact; inside = answer_inside shown bytes r exact; lines = answer_lines shown bytes r exact; first_fault = answer_fault shown bytes r exact }
 
 pub returns : goal.returns
 returns c =
     let bytes = c.args.bytes.now in
-    let parts = c.in-ok-grid.field-0 in
-    let exact : fine (parted parts) ≡ verdict_on bytes = ap verdict (c.in-ok-grid.ensures refl ∙ ap lines_of c.new-cursor.ensures) in
+    let parts = c.in_ok-grid.field-0 in
+    let exact : fine (parted parts) ≡ verdict_on bytes = ap verdict (c.in_ok-grid.ensures refl ∙ ap lines_of c.new-cursor.ensures) in
     record { answer = λ _. exact; inside = answer_inside parted bytes (Ok parts) (λ _. exact); lines = answer_lines parted bytes (Ok parts) (λ _. exact); first_fault = λ _. tt }

@@ -6,5 +6,5 @@ use Rattle.standing.proofs.belonging.in_order.Goals as goal
 
 pub returns : goal.returns
 returns c =
-    phase_decides (statement_of (shown c.args.nest.now) c.args.order.now) c.args.order.now c.args.at c.reads-of.result c.goes-with.result
-    (sym c.in-span.ensures ∙ c.if-not-in-span.false) (sym c.in-span-2.ensures ∙ c.if-not-in-span-2.false) c.reads-of.ensures c.goes-with.ensures
+    phase_decides (statement_of (shown c.args.nest.now) c.args.order.now) c.args.order.now c.args.at c.reads_of.result c.goes_with.result
+    (sym c.in_span.ensures ∙ c.if-not-in_span.false) (sym c.in_span-2.ensures ∙ c.if-not-in_span-2.false) c.reads_of.ensures c.goes_with.ensures

@@ -9,5 +9,5 @@ pub returns : goal.returns
 returns c =
     let early : c.args.at.sweep < (shown c.args.nest.now).sweeps = omega arith in
     let there : c.args.at.order < length c.args.orders.now = omega arith in
-    order_decides (shown c.args.nest.now) c.args.orders.now c.args.at _ c.in-order.result early there
-    (get_or_default c.args.orders.now c.args.at.order no_order _ there) c.in-order.ensures
+    order_decides (shown c.args.nest.now) c.args.orders.now c.args.at _ c.in_order.result early there
+    (get_or_default c.args.orders.now c.args.at.order no_order _ there) c.in_order.ensures

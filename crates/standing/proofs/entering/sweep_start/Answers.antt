@@ -7,8 +7,8 @@ pub returns-in-Some : goal.returns-in-Some
 returns-in-Some c =
     let early : c.args.sweep < (shown c.args.nest.now).sweeps = omega arith in
     record {
-      todo = enters_sweep (shown c.args.nest.now) c.args.orders.now c.args.sweep c.in-Some.k c.first-place.result c.first-place.ensures early c.in-Some.ensures;
-      there = enters_in (shown c.args.nest.now) c.args.orders.now c.args.sweep 0 c.in-Some.k c.first-place.result c.first-place.ensures early c.in-Some.ensures;
+      todo = enters_sweep (shown c.args.nest.now) c.args.orders.now c.args.sweep c.in-Some.k c.first_place.result c.first_place.ensures early c.in-Some.ensures;
+      there = enters_in (shown c.args.nest.now) c.args.orders.now c.args.sweep 0 c.in-Some.k c.first_place.result c.first_place.ensures early c.in-Some.ensures;
     }
 
 pub returns-in-None : goal.returns-in-None

@@ -4,8 +4,8 @@ use Rattle.tokens.proofs.value.written_number.Goals as goal
 
 pub loop-b-preserved : goal.loop-b-preserved
 loop-b-preserved c = (
-  subst (λ n. n ≤ 10000) (sym c.with-digit-value.ensures) (written_capped c.loop-b.value (get_or c.args.text.now c.loop-b.b-index 0) c.loop-b.invariant.0),
-  magnitude_more c.args.text.now c.loop-b.b-index c.loop-b.value _ c.loop-b-test.true c.with-digit-value.ensures c.loop-b.invariant.1,
+  subst (λ n. n ≤ 10000) (sym c.with_digit-value.ensures) (written_capped c.loop-b.value (get_or c.args.text.now c.loop-b.b-index 0) c.loop-b.invariant.0),
+  magnitude_more c.args.text.now c.loop-b.b-index c.loop-b.value _ c.loop-b-test.true c.with_digit-value.ensures c.loop-b.invariant.1,
 )
 
 pub returns : goal.returns

@@ -9,7 +9,7 @@ pub bounds-slots-self : goal.bounds-slots-self
 bounds-slots-self g c =
     let l = c.args.self.now in
     let s = c.requires.served in
-    slot_free l.boards l.depth l.used c.args.from c.args.to c.args.slots.now s.0 s.1 c.args.letter (λ e. c.if-count-of-self.false (c.count-of.ensures ∙ e)) c.requires.kept c.requires.room c.requires.held
+    slot_free l.boards l.depth l.used c.args.from c.args.to c.args.slots.now s.0 s.1 c.args.letter (λ e. c.if-count_of-self.false (c.count_of.ensures ∙ e)) c.requires.kept c.requires.room c.requires.held
 
 pub returns : goal.returns
 returns g c =
@@ -18,7 +18,7 @@ returns g c =
     let from = c.args.from in
     let to = c.args.to in
     let s = c.requires.served in
-    let free : length (letters_for_lem from to (take l.used slots)) ≢ l.depth = λ e. c.if-count-of-self.false (c.count-of.ensures ∙ e) in
+    let free : length (letters_for_lem from to (take l.used slots)) ≢ l.depth = λ e. c.if-count_of-self.false (c.count_of.ensures ∙ e) in
     let below : l.used < length slots = slot_free l.boards l.depth l.used from to slots s.0 s.1 c.args.letter free c.requires.kept c.requires.room c.requires.held in
     record {
       answer = put_joined (belt_mail l.boards l.depth l.used slots) from to s.0 s.1 free;

@@ -7,8 +7,8 @@ use Rattle.compiler.proofs.view.BoardView.orders.Goals as goal
 pub loop-number-init : goal.loop-number-init
 loop-number-init g c = c.new-orders.ensures.items
 
-pub push-orders-requires : goal.push-orders-requires
-push-orders-requires g c = record {
+pub push_orders-requires : goal.push_orders-requires
+push_orders-requires g c = record {
   seated = c.requires;
   kept = statement_kept_lem (shown c.args.self.now.nest.now) c.args.self.now.nest.now.kept c.statements-statement-items.result.now c.statements-statement-items.ensures c.loop-number.number c.statement-item.result c.loop-number-test.true c.statement-item.is;
 }
@@ -16,7 +16,7 @@ push-orders-requires g c = record {
 pub loop-number-preserved : goal.loop-number-preserved
 loop-number-preserved g c =
     let board = seat_in (shown c.args.self.now.nest.now) (map g.R.OwnerMap.meaning c.args.self.now.row_maps.now) (map g.C.OwnerMap.meaning c.args.self.now.column_maps.now) c.args.self.now.board in
-    orders_more board c.statements-statement-items.result.now c.loop-number.number c.statement-item.result (vec_items c.loop-number.orders) (vec_items c.push-orders.new.orders) c.loop-number-test.true c.statement-item.is c.loop-number.invariant c.in-ok-push-orders.ensures
+    orders_more board c.statements-statement-items.result.now c.loop-number.number c.statement-item.result (vec_items c.loop-number.orders) (vec_items c.push_orders.new.orders) c.loop-number-test.true c.statement-item.is c.loop-number.invariant c.in_ok-push_orders.ensures
 
 pub returns : goal.returns
 returns g c =

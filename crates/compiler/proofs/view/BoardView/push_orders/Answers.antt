@@ -5,17 +5,17 @@ use Rattle.compiler.specs.Making.{seat_in, AllOrderable}
 use Rattle.compiler.proofs.SpansReach.{tasks_orderable, plain_spannable}
 use Rattle.compiler.proofs.view.BoardView.push_orders.Goals as goal
 
-pub push-task-orders-requires : goal.push-task-orders-requires
-push-task-orders-requires g c =
+pub push_task_orders-requires : goal.push_task_orders-requires
+push_task_orders-requires g c =
     let n = shown c.args.self.now.nest.now in
     let rows = map g.R.OwnerMap.meaning c.args.self.now.row_maps.now in
     let columns = map g.C.OwnerMap.meaning c.args.self.now.column_maps.now in
     let s = said c.args.statement.now in
-    subst (AllOrderable (seat_in n rows columns c.args.self.now.board) s) (sym (c.as-slice.ensures.value ∙ c.in-ok-tasks.ensures))
+    subst (AllOrderable (seat_in n rows columns c.args.self.now.board) s) (sym (c.as_slice.ensures.value ∙ c.in_ok-tasks.ensures))
     (tasks_orderable n rows columns c.args.self.now.board c.requires.seated s c.requires.kept)
 
-pub walk-order-requires : goal.walk-order-requires
-walk-order-requires g c =
+pub walk_order-requires : goal.walk_order-requires
+walk_order-requires g c =
     let rows = map g.R.OwnerMap.meaning c.args.self.now.row_maps.now in
     let columns = map g.C.OwnerMap.meaning c.args.self.now.column_maps.now in
     plain_spannable (shown c.args.self.now.nest.now) rows columns c.args.self.now.board c.requires.seated (said c.args.statement.now) c.requires.kept

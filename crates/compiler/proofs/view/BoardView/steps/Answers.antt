@@ -8,8 +8,8 @@ use Rattle.compiler.proofs.OrdersShort.{board_orders_few, statements_few}
 use Rattle.compiler.proofs.view.BoardView.steps.Given as given
 use Rattle.compiler.proofs.view.BoardView.steps.Goals as goal
 
-pub steps-of-requires : goal.steps-of-requires
-steps-of-requires g c =
+pub steps_of-requires : goal.steps_of-requires
+steps_of-requires g c =
     let n = shown c.args.self.now.nest.now in
     let rows = map g.R.OwnerMap.meaning c.args.self.now.row_maps.now in
     let columns = map g.C.OwnerMap.meaning c.args.self.now.column_maps.now in
@@ -19,19 +19,19 @@ steps-of-requires g c =
     }
 
 -- sweeps times the steps of one sweep is a small number
-small : (g : given.Over) (c : goal.After-steps-of g) → c.sweeps.result * c.steps-of.result ≤ 871200000
+small : (g : given.Over) (c : goal.After-steps_of g) → c.sweeps.result * c.steps_of.result ≤ 871200000
 small g c =
     let n = shown c.args.self.now.nest.now in
     let few = (nest_parts n.grid n.arrays n.sweeps n.statements c.args.self.now.nest.now.kept).few_sweeps in
-    mul-le-mul (subst (λ m. m ≤ 1000) (sym c.sweeps.ensures) few) c.steps-of.ensures.small
+    mul-le-mul (subst (λ m. m ≤ 1000) (sym c.sweeps.ensures) few) c.steps_of.ensures.small
 
-pub overflow-mul-result : goal.overflow-mul-result
-overflow-mul-result g c = omega (arith, small g c)
+pub overflow_mul-result : goal.overflow_mul-result
+overflow_mul-result g c = omega (arith, small g c)
 
 pub returns : goal.returns
 returns g c =
     let n = shown c.args.self.now.nest.now in
     let rows = map g.R.OwnerMap.meaning c.args.self.now.row_maps.now in
     let columns = map g.C.OwnerMap.meaning c.args.self.now.column_maps.now in
-    let one = c.steps-of.ensures.value ∙ ap₂ step_counts c.statements.ensures c.requires.own ∙ sweep_counted n.statements (seat_in n rows columns c.args.self.now.board) in
+    let one = c.steps_of.ensures.value ∙ ap₂ step_counts c.statements.ensures c.requires.own ∙ sweep_counted n.statements (seat_in n rows columns c.args.self.now.board) in
     record { value = ap₂ (λ m k. m * k) c.sweeps.ensures one; small = small g c }

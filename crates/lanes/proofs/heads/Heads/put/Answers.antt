@@ -19,8 +19,8 @@ returns-then-ring-self g c =
       depth = refl {a = h.depth};
     }
 
-pub invariant-of-self : goal.invariant-of-self
-invariant-of-self g c =
+pub invariant_of-self : goal.invariant_of-self
+invariant_of-self g c =
     let h = c.args.self.now in
     let lying = heads_lying h c.args.from c.args.to c.pair-pair.result c.args.letters.now c.pair-pair.ensures.0 c.requires.served c.requires.room in
     let longer = longer_within lying c.args.letter c.round-at.result c.spot.result c.if-ring-self.false c.round-at.ensures.0 c.spot.ensures.0 in

@@ -9,8 +9,8 @@ round-requires g c =
     let lying = heads_lying h c.args.from c.args.to c.pair-pair.result c.args.letters.now c.pair-pair.ensures.0 c.requires.served c.requires.room in
     next_round lying c.if-ring-eq0.false
 
-pub invariant-of-self : goal.invariant-of-self
-invariant-of-self g c =
+pub invariant_of-self : goal.invariant_of-self
+invariant_of-self g c =
     let h = c.args.self.now in
     let lying = heads_lying h c.args.from c.args.to c.pair-pair.result c.args.letters.now c.pair-pair.ensures.0 c.requires.served c.requires.room in
     let shorter = shorter_within lying c.index-letters-spot.result c.round.result c.spot.result c.if-ring-eq0.false c.spot.ensures.0 c.index-letters-spot.is c.round.ensures.0 c.round.ensures.1 in

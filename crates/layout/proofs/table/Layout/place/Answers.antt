@@ -18,11 +18,11 @@ room c =
     place_room c.args.self.now.arrays.now c.args.self.now.starts c.args.self.now.few c.args.self.now.small c.args.self.now.begun c.args.array c.args.row c.args.column
     c.if-array-self.false c.if-rows-row.false c.if-columns-column.false
 
-pub overflow-add-result : goal.overflow-add-result
-overflow-add-result c = omega (arith, room c)
+pub overflow_add-result : goal.overflow_add-result
+overflow_add-result c = omega (arith, room c)
 
-pub overflow-add-result-2 : goal.overflow-add-result-2
-overflow-add-result-2 c = omega (arith, room c)
+pub overflow_add-result-2 : goal.overflow_add-result-2
+overflow_add-result-2 c = omega (arith, room c)
 
 pub returns : goal.returns
 returns c = (

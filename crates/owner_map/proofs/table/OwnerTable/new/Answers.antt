@@ -14,8 +14,8 @@ loop-i-preserved c =
     let room : c.loop-i.i < length c.loop-i.row = omega arith in
     (omega arith, simp length-set inv.1, copy_more c.loop-i.row c.args.owners.now c.loop-i.i room c.loop-i-test.true inv.2, below_more _ _ inv.3 owner)
 
-pub invariant-of-result : goal.invariant-of-result
-invariant-of-result c =
+pub invariant_of-result : goal.invariant_of-result
+invariant_of-result c =
     let inv = c.loop-i.invariant in
     let whole = copy_all c.loop-i.row c.args.owners.now c.loop-i.i inv.0 c.loop-i-test.false inv.2 in
     let sound = sound_listed c.args.boards c.args.owners.now (omega arith) (omega arith) (omega arith) (omega arith) (λ k h. inv.3 k (omega arith)) in

@@ -16,6 +16,6 @@ pub returns : goal.returns
 returns c =
     let grid = c.args.nest.now.grid in
     let arrays = vec_items c.args.nest.now.arrays in
-    let same : dealt (map tabled c.row-maps.result.now) (map tabled c.column-maps.result.now) ≡ deals_of c.args.self.now = ap₂ dealt c.row-maps.ensures c.column-maps.ensures in
-    let fit = subst (λ deals. MatchBool c.maps-fit.result (Fits grid arrays deals) (Fits grid arrays deals → ⊥)) same c.maps-fit.ensures in
-    record { answer = fit; elements = shape c.maps-fit.result grid arrays (deals_of c.args.self.now) fit }
+    let same : dealt (map tabled c.row_maps.result.now) (map tabled c.column_maps.result.now) ≡ deals_of c.args.self.now = ap₂ dealt c.row_maps.ensures c.column_maps.ensures in
+    let fit = subst (λ deals. MatchBool c.maps_fit.result (Fits grid arrays deals) (Fits grid arrays deals → ⊥)) same c.maps_fit.ensures in
+    record { answer = fit; elements = shape c.maps_fit.result grid arrays (deals_of c.args.self.now) fit }

@@ -7,44 +7,44 @@ use Rattle.sections.proofs.MapsFit.{maps_sound}
 use Rattle.sections.proofs.NestRoom.{kept_room}
 use Rattle.sections.proofs.dealt.Dealt.new.Goals as goal
 
-pub tables-of-rows-requires : goal.tables-of-rows-requires
-tables-of-rows-requires g c =
+pub tables_of-rows-requires : goal.tables_of-rows-requires
+tables_of-rows-requires g c =
     let room = kept_room c.args.nest.now.grid (vec_items c.args.nest.now.arrays) c.args.nest.now.sweeps (said_all c.args.nest.now.statements) c.args.nest.now.kept in
-    rows_count g.R.OwnerMap.meaning g.C.OwnerMap.meaning c.args.nest.now.grid (vec_items c.args.nest.now.arrays) c.args.row-maps.now c.args.column-maps.now c.if-not-maps-fit.ensures room
+    rows_count g.R.OwnerMap.meaning g.C.OwnerMap.meaning c.args.nest.now.grid (vec_items c.args.nest.now.arrays) c.args.row_maps.now c.args.column_maps.now c.if-not-maps_fit.ensures room
 
-pub tables-of-columns-requires : goal.tables-of-columns-requires
-tables-of-columns-requires g c =
+pub tables_of-columns-requires : goal.tables_of-columns-requires
+tables_of-columns-requires g c =
     let room = kept_room c.args.nest.now.grid (vec_items c.args.nest.now.arrays) c.args.nest.now.sweeps (said_all c.args.nest.now.statements) c.args.nest.now.kept in
-    columns_count g.R.OwnerMap.meaning g.C.OwnerMap.meaning c.args.nest.now.grid (vec_items c.args.nest.now.arrays) c.args.row-maps.now c.args.column-maps.now c.if-not-maps-fit.ensures room
+    columns_count g.R.OwnerMap.meaning g.C.OwnerMap.meaning c.args.nest.now.grid (vec_items c.args.nest.now.arrays) c.args.row_maps.now c.args.column_maps.now c.if-not-maps_fit.ensures room
 
-pub invariant-of-result : goal.invariant-of-result
-invariant-of-result g c =
+pub invariant_of-result : goal.invariant_of-result
+invariant_of-result g c =
     let grid = c.args.nest.now.grid in
     let arrays = vec_items c.args.nest.now.arrays in
-    let rows = c.args.row-maps.now in
-    let columns = c.args.column-maps.now in
-    let fit = c.if-not-maps-fit.ensures in
+    let rows = c.args.row_maps.now in
+    let columns = c.args.column_maps.now in
+    let fit = c.if-not-maps_fit.ensures in
     let room = kept_room grid arrays c.args.nest.now.sweeps (said_all c.args.nest.now.statements) c.args.nest.now.kept in
     let deals : Deals = dealt (map g.R.OwnerMap.meaning rows) (map g.C.OwnerMap.meaning columns) in
     let sound = maps_sound g.R.OwnerMap.meaning g.C.OwnerMap.meaning g.met.R.OwnerMap.sound g.met.C.OwnerMap.sound rows columns in
-    let starts = c.part-starts-starts.result in
-    let written : Deals = dealt (map tabled (take (length rows) c.tables-of-rows.result)) (map tabled (take (length rows) c.tables-of-columns.result)) in
-    let same : written ≡ deals = deals_same tabled g.R.OwnerMap.meaning g.C.OwnerMap.meaning c.tables-of-rows.result c.tables-of-columns.result rows columns (counts_even g.R.OwnerMap.meaning g.C.OwnerMap.meaning grid arrays rows columns fit room) c.tables-of-rows.ensures.same c.tables-of-columns.ensures.same in
-    let here : Kept grid deals starts = kept_of grid arrays deals starts fit sound room c.part-starts-starts.ensures.begun in
+    let starts = c.part_starts-starts.result in
+    let written : Deals = dealt (map tabled (take (length rows) c.tables_of-rows.result)) (map tabled (take (length rows) c.tables_of-columns.result)) in
+    let same : written ≡ deals = deals_same tabled g.R.OwnerMap.meaning g.C.OwnerMap.meaning c.tables_of-rows.result c.tables_of-columns.result rows columns (counts_even g.R.OwnerMap.meaning g.C.OwnerMap.meaning grid arrays rows columns fit room) c.tables_of-rows.ensures.same c.tables_of-columns.ensures.same in
+    let here : Kept grid deals starts = kept_of grid arrays deals starts fit sound room c.part_starts-starts.ensures.begun in
     let kept : Kept c.grid.result written starts = subst (λ h. Kept h written starts) (sym c.grid.ensures) (subst (λ ds. Kept grid ds starts) (sym same) here) in
     let few : length rows ≤ 4 = (rows_count g.R.OwnerMap.meaning g.C.OwnerMap.meaning grid arrays rows columns fit room).1 in
     let boards : c.grid.result.rows * c.grid.result.columns ≤ 8 = subst (λ h. h.rows * h.columns ≤ 8) (sym c.grid.ensures) room.boards in
-    (few, (c.tables-of-rows.ensures.room, (c.tables-of-columns.ensures.room, (c.part-starts-starts.ensures.room, (boards, (kept.0, (kept.1, (kept.2, tt))))))))
+    (few, (c.tables_of-rows.ensures.room, (c.tables_of-columns.ensures.room, (c.part_starts-starts.ensures.room, (boards, (kept.0, (kept.1, (kept.2, tt))))))))
 
 pub returns : goal.returns
 returns g c =
     let grid = c.args.nest.now.grid in
     let arrays = vec_items c.args.nest.now.arrays in
-    let rows = c.args.row-maps.now in
-    let columns = c.args.column-maps.now in
-    let fit = c.if-not-maps-fit.ensures in
+    let rows = c.args.row_maps.now in
+    let columns = c.args.column_maps.now in
+    let fit = c.if-not-maps_fit.ensures in
     let room = kept_room grid arrays c.args.nest.now.sweeps (said_all c.args.nest.now.statements) c.args.nest.now.kept in (
       fit,
       c.grid.ensures,
-      deals_same tabled g.R.OwnerMap.meaning g.C.OwnerMap.meaning c.tables-of-rows.result c.tables-of-columns.result rows columns (counts_even g.R.OwnerMap.meaning g.C.OwnerMap.meaning grid arrays rows columns fit room) c.tables-of-rows.ensures.same c.tables-of-columns.ensures.same,
+      deals_same tabled g.R.OwnerMap.meaning g.C.OwnerMap.meaning c.tables_of-rows.result c.tables_of-columns.result rows columns (counts_even g.R.OwnerMap.meaning g.C.OwnerMap.meaning grid arrays rows columns fit room) c.tables_of-rows.ensures.same c.tables_of-columns.ensures.same,
     )

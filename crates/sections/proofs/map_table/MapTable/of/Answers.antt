@@ -5,28 +5,28 @@ use Rattle.sections.specs.MapRows.{RanksIn, SharesIn, PositionsIn}
 use Rattle.sections.proofs.Tablings.{listed_is}
 use Rattle.sections.proofs.map_table.MapTable.of.Goals as goal
 
-pub invariant-of-result : goal.invariant-of-result
-invariant-of-result g c =
+pub invariant_of-result : goal.invariant_of-result
+invariant_of-result g c =
     let d : Deal = g.M.OwnerMap.meaning c.args.map.now in
     let sound : Sound d = g.met.M.OwnerMap.sound c.args.map.now in
-    let made = c.written-places.ensures in
-    let is : d ≡ listed c.boards-boards.result (take c.length-size.result c.written-places.result.0) = sym (listed_is d c.boards-boards.result c.length-size.result c.written-places.result.0 c.boards-boards.ensures c.length-size.ensures made.owners) in (
+    let made = c.written_places.ensures in
+    let is : d ≡ listed c.boards-boards.result (take c.length-size.result c.written_places.result.0) = sym (listed_is d c.boards-boards.result c.length-size.result c.written_places.result.0 c.boards-boards.ensures c.length-size.ensures made.owners) in (
       omega (arith, sound.3, c.length-size.ensures),
       (
         made.room.0,
         (
           made.room.1,
           (
-            c.written-shares-shares.ensures.room,
+            c.written_shares-shares.ensures.room,
             (
               made.room.2,
               (
                 subst Sound is sound,
                 (
-                  subst (λ e. RanksIn e c.written-places.result.1) is made.ranks,
+                  subst (λ e. RanksIn e c.written_places.result.1) is made.ranks,
                   (
-                    subst (λ e. SharesIn e c.written-shares-shares.result) is c.written-shares-shares.ensures.shares,
-                    (subst (λ e. PositionsIn e c.written-places.result.2) is made.positions, tt),
+                    subst (λ e. SharesIn e c.written_shares-shares.result) is c.written_shares-shares.ensures.shares,
+                    (subst (λ e. PositionsIn e c.written_places.result.2) is made.positions, tt),
                   ),
                 ),
               ),
@@ -38,4 +38,4 @@ invariant-of-result g c =
 
 pub returns : goal.returns
 returns g c =
-    listed_is (g.M.OwnerMap.meaning c.args.map.now) c.boards-boards.result c.length-size.result c.written-places.result.0 c.boards-boards.ensures c.length-size.ensures c.written-places.ensures.owners
+    listed_is (g.M.OwnerMap.meaning c.args.map.now) c.boards-boards.result c.length-size.result c.written_places.result.0 c.boards-boards.ensures c.length-size.ensures c.written_places.ensures.owners

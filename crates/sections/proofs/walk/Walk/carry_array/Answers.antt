@@ -10,14 +10,14 @@ use Rattle.sections.proofs.walk.Walk.carry_array.Goals as goal
 pub loop-before-init : goal.loop-before-init
 loop-before-init g c = (λ x l y e. absurd (omega (arith, (element_here (vec_items c.args.self.now.nest.now.arrays) c.args.array x y e).1)), λ k so. so)
 
-pub carry-row-requires : goal.carry-row-requires
-carry-row-requires g c =
+pub carry_row-requires : goal.carry_row-requires
+carry_row-requires g c =
     let high : (array_at c.arrays.result.now c.args.array).rows ≡ (array_at (vec_items c.args.self.now.nest.now.arrays) c.args.array).rows = ap (λ a. (array_at a c.args.array).rows) c.arrays.ensures in
     ((c.requires.0.0, c.requires.0.1, c.requires.0.2, c.loop-before.auto.to ∙ c.requires.0.3), c.requires.1, omega arith, omega (arith, c.loop-before-test.true))
 
 pub loop-before-preserved : goal.loop-before-preserved
 loop-before-preserved g c =
-    rows_more (course_of c.args.self.now.way (shown c.args.self.now.nest.now) (deals_of c.args.self.now.dealt).rows (deals_of c.args.self.now.dealt).columns) c.args.from.now c.args.to.now c.loop-before.to c.carry-row.new.to c.args.array c.loop-before.before c.loop-before.invariant c.carry-row.ensures.carried c.carry-row.ensures.kept
+    rows_more (course_of c.args.self.now.way (shown c.args.self.now.nest.now) (deals_of c.args.self.now.dealt).rows (deals_of c.args.self.now.dealt).columns) c.args.from.now c.args.to.now c.loop-before.to c.carry_row.new.to c.args.array c.loop-before.before c.loop-before.invariant c.carry_row.ensures.carried c.carry_row.ensures.kept
 
 pub returns : goal.returns
 returns g c =

@@ -17,8 +17,8 @@ ends-read-requires g c =
     let e = element_there (vec_items c.args.self.now.nest.now.arrays) c.args.array c.args.row (c.loop-before.before + 1) c.requires.1 c.requires.2 c.requires.3 (omega arith) (omega (arith, c.loop-before-test.true)) in
     (c.requires.0.0, c.requires.0.1, e)
 
-pub offset-bounds-from-read : goal.offset-bounds-from-read
-offset-bounds-from-read g c =
+pub offset_bounds-from-read : goal.offset_bounds-from-read
+offset_bounds-from-read g c =
     let wide : (array_at c.arrays.result.now c.args.array).columns ≡ (array_at (vec_items c.args.self.now.nest.now.arrays) c.args.array).columns = ap (λ a. (array_at a c.args.array).columns) c.arrays.ensures in
     let e = element_there (vec_items c.args.self.now.nest.now.arrays) c.args.array c.args.row (c.loop-before.before + 1) c.requires.1 c.requires.2 c.requires.3 (omega arith) (omega (arith, c.loop-before-test.true)) in
     let below = ends_below (course_of c.args.self.now.way (shown c.args.self.now.nest.now) (deals_of c.args.self.now.dealt).rows (deals_of c.args.self.now.dealt).columns) c.requires.0.0.0 (dealt_sound c.args.self.now.dealt) c.args.array c.args.row (c.loop-before.before + 1) e in
@@ -31,8 +31,8 @@ bounds-from-read g c =
     let below = ends_below (course_of c.args.self.now.way (shown c.args.self.now.nest.now) (deals_of c.args.self.now.dealt).rows (deals_of c.args.self.now.dealt).columns) c.requires.0.0.0 (dealt_sound c.args.self.now.dealt) c.args.array c.args.row (c.loop-before.before + 1) e in
     omega (arith, below.0, c.requires.0.2, c.ends-read.ensures.read)
 
-pub offset-bounds-to-written : goal.offset-bounds-to-written
-offset-bounds-to-written g c =
+pub offset_bounds-to-written : goal.offset_bounds-to-written
+offset_bounds-to-written g c =
     let wide : (array_at c.arrays.result.now c.args.array).columns ≡ (array_at (vec_items c.args.self.now.nest.now.arrays) c.args.array).columns = ap (λ a. (array_at a c.args.array).columns) c.arrays.ensures in
     let e = element_there (vec_items c.args.self.now.nest.now.arrays) c.args.array c.args.row (c.loop-before.before + 1) c.requires.1 c.requires.2 c.requires.3 (omega arith) (omega (arith, c.loop-before-test.true)) in
     let below = ends_below (course_of c.args.self.now.way (shown c.args.self.now.nest.now) (deals_of c.args.self.now.dealt).rows (deals_of c.args.self.now.dealt).columns) c.requires.0.0.0 (dealt_sound c.args.self.now.dealt) c.args.array c.args.row (c.loop-before.before + 1) e in

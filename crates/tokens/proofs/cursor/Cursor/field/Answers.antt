@@ -5,4 +5,4 @@ use Rattle.tokens.proofs.cursor.Cursor.field.Goals as goal
 
 pub pass-requires : goal.pass-requires
 pass-requires c =
-    subst (λ e. size e ≤ length c.word.new.self.rest.now) (sym c.extent-of.ensures) (extent_within c.args.kind c.word.new.self.rest.now)
+    subst (λ e. size e ≤ length c.word.new.self.rest.now) (sym c.extent_of.ensures) (extent_within c.args.kind c.word.new.self.rest.now)

@@ -5,4 +5,4 @@ use Rattle.tokens.proofs.cursor.Cursor.word.Goals as goal
 
 pub pass-requires : goal.pass-requires
 pass-requires c =
-    subst (λ e. size e ≤ length c.args.self.now.rest.now) (sym c.literal-extent.ensures) (literal_within c.args.text.now c.args.self.now.rest.now)
+    subst (λ e. size e ≤ length c.args.self.now.rest.now) (sym c.literal_extent.ensures) (literal_within c.args.text.now c.args.self.now.rest.now)

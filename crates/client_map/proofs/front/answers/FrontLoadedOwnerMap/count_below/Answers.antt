@@ -16,7 +16,7 @@ returns c =
     let board : c.args.board < m.boards = omega arith in
     let high : c.args.bound ≤ m.size + 1 = omega arith in
     let t = below_front m.boards m.size m.front m.sizes.0 c.args.board c.args.bound board high in
-    let part = c.front-of.ensures in
-    let in-front = c.min-in-front.ensures in
-    let behind = c.saturating-sub-dealt.ensures in
+    let part = c.front_of.ensures in
+    let in-front = c.min-in_front.ensures in
+    let behind = c.saturating_sub-dealt.ensures in
     (omega arith, rw (in-front, behind, part) (sym t))

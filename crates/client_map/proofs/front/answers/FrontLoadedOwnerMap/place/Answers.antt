@@ -25,5 +25,5 @@ returns c =
     let high : c.args.x ≤ m.size = omega arith in
     let behind : m.front < c.args.x = omega arith in (
       omega (arith, extent_front m.boards m.size m.front),
-      rw c.front-of.ensures (sym (place_behind m.boards m.size m.front m.sizes.0 c.args.x high behind)),
+      rw c.front_of.ensures (sym (place_behind m.boards m.size m.front m.sizes.0 c.args.x high behind)),
     )

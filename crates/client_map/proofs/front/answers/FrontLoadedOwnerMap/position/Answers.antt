@@ -22,7 +22,7 @@ returns-then-rank-self c =
 pub returns-then-before-self : goal.returns-then-before-self
 returns-then-before-self c =
     let m = c.args.self.now in
-    let part = c.front-of-front.ensures in
+    let part = c.front_of-front.ensures in
     let board : c.args.board < m.boards = omega arith in
     let behind : front_part m.front c.args.board ≤ c.args.rank = omega arith in
     let within : m.front + (c.args.rank - front_part m.front c.args.board) * m.boards + c.args.board < m.size = rw (sym part) (omega arith) in
@@ -31,7 +31,7 @@ returns-then-before-self c =
 pub returns-else-before-self : goal.returns-else-before-self
 returns-else-before-self c =
     let m = c.args.self.now in
-    let part = c.front-of-front.ensures in
+    let part = c.front_of-front.ensures in
     let board : c.args.board < m.boards = omega arith in
     let behind : front_part m.front c.args.board ≤ c.args.rank = omega arith in
     let past : m.size ≤ m.front + (c.args.rank - front_part m.front c.args.board) * m.boards + c.args.board = rw (sym part) (omega arith) in

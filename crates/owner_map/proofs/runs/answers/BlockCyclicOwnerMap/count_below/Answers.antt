@@ -16,7 +16,7 @@ returns c =
     let board : c.args.board < m.boards = omega arith in
     let high : c.args.bound ≤ m.size + 1 = omega arith in
     let t = below_runs m.width m.boards m.size m.wide m.sizes.0 c.args.board c.args.bound board high in
-    let part = c.saturating-sub-begun.ensures in
+    let part = c.saturating_sub-begun.ensures in
     let least = c.min.ensures in
     let round = c.round-round.ensures.product in
     (omega arith, rw (least, part, round) (omega arith))
