@@ -1,10 +1,10 @@
 -- What a cursor has passed. Assumes nothing.
-use Rattle.std.proofs.Common.{◌≡◌, ℕ, zero, suc, ◌+◌, ◌-◌, ◌<◌, ◌≤◌, Bool, true, false, cond, List, [], ◌∷◌, length, take, drop, sym, refl, ap, ◌∙◌, subst, arith}
+use Rattle.std.proofs.Common.{◌≡◌, ℕ, ◌+◌, ◌-◌, Bool, true, false, cond, [], ◌∷◌, length, take, drop, sym, refl, ap, ◌∙◌, arith}
 use Rattle.std.proofs.lemmas.List.{take_rest}
 use Rattle.tokens.specs.declared.extent.Extent.{Extent}
 use Rattle.tokens.specs.declared.extent.Extent.TheVariants.{Whole, Stuck}
-use Rattle.tokens.specs.Extents.{shared, literal}
-use Rattle.tokens.specs.Texts.{Text, Piece, Read, got, refused, past, taken, word}
+use Rattle.tokens.specs.Extents.{literal}
+use Rattle.tokens.specs.Texts.{Text, Piece, got, past, taken, word}
 
 byte_past : (e : Extent) (u t : Text) (p : Piece) → got p t ≡ taken e u → (n : ℕ) → ((m : ℕ) → e ≡ Whole m → m ≡ n) → t.byte ≡ u.byte + n
 byte_past (Whole m) u t p h n f =

@@ -1,5 +1,5 @@
 -- An extent counts no more bytes than the text has. Assumes nothing.
-use Rattle.std.proofs.Common.{◌≡◌, ℕ, zero, suc, ◌+◌, ◌-◌, ◌<◌, ◌≤◌, Bool, true, false, cond, eqb, ltb, List, [], ◌∷◌, length, drop, sym, refl, ap, ◌∙◌, subst, arith, length-drop}
+use Rattle.std.proofs.Common.{ℕ, zero, suc, ◌+◌, ◌≤◌, cond, eqb, ltb, List, [], ◌∷◌, length, drop, arith, length-drop}
 use Rattle.std.proofs.lemmas.Bool.{eqb-true, ltb-false, cond_both}
 use Rattle.tokens.specs.declared.extent.FieldKind.{FieldKind}
 use Rattle.tokens.specs.declared.extent.FieldKind.TheVariants.{Number, Signed, Mode, Variable, Map}

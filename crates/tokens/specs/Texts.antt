@@ -1,5 +1,5 @@
 -- Reading a line of a sheet from the front: what is got, and what is left. Assumes nothing.
-use Rattle.std.specs.Prelude.{ℕ, ◌+◌, List, [], ◌∷◌, ◌++◌, take, drop}
+use Rattle.std.specs.Prelude.{ℕ, ◌+◌, List, [], ◌∷◌, take, drop}
 use Rattle.tokens.specs.declared.extent.FieldKind.{FieldKind}
 use Rattle.tokens.specs.declared.extent.Extent.{Extent}
 use Rattle.tokens.specs.declared.extent.Extent.TheVariants.{Whole, Stuck}

@@ -1,5 +1,5 @@
 -- What the text of a field says. Assumes nothing.
-use Rattle.std.specs.Prelude.{ℕ, ◌+◌, ◌-◌, ◌*◌, min, Bool, true, false, cond, List, [], ◌∷◌, ◌==◌}
+use Rattle.std.specs.Prelude.{ℕ, ◌+◌, ◌-◌, ◌*◌, min, Bool, false, cond, List, [], ◌∷◌, ◌==◌}
 use Rattle.tokens.specs.declared.extent.FieldKind.{FieldKind}
 use Rattle.tokens.specs.declared.extent.FieldKind.TheVariants.{Number, Signed, Mode, Variable, Map}
 use Rattle.tokens.specs.declared.part.Token.{Token}

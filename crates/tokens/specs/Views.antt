@@ -1,5 +1,5 @@
 -- What the code's tokens and cursor stand for. Assumes nothing.
-use Rattle.std.specs.Prelude.{ℕ, List, Ok, Err, Result}
+use Rattle.std.specs.Prelude.{Ok, Err, Result}
 use Rattle.tokens.specs.declared.part.Part.{Part}
 use Rattle.tokens.specs.declared.part.Token.{Token}
 use Rattle.tokens.specs.declared.part.Token.TheVariants.{Number, Word, Key}
