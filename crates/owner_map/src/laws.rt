@@ -9,8 +9,8 @@ use super::refusal::Refusal;
 
 /// The position at the place of `x`, which is `x` again.
 pub fn position_of_place<M: OwnerMap>(map: &M, x: usize) -> Result<Option<usize>, Refusal>
-    ensures answer { Given (Position (meaning map.now) x) (λ p. p ≡ Some x) result }
-    ensures law { PlaceUndone (meaning map.now) }
+    ensures answer { Given (Position (M.meaning map.now) x) (λ p. p ≡ Some x) result }
+    ensures law { PlaceUndone (M.meaning map.now) }
 {
     let (owner, rank) = map.place(x)?;
     map.position(owner, rank)
@@ -23,8 +23,8 @@ pub fn place_of_position<M: OwnerMap>(
     board: usize,
     rank: usize,
 ) -> Result<Option<(usize, usize)>, Refusal>
-    ensures answer { Given (Board (meaning map.now) board) (λ p. p ≡ place_again (meaning map.now) board rank) result }
-    ensures law { PositionUndone (meaning map.now) }
+    ensures answer { Given (Board (M.meaning map.now) board) (λ p. p ≡ place_again (M.meaning map.now) board rank) result }
+    ensures law { PositionUndone (M.meaning map.now) }
 {
     match map.position(board, rank)? {
         Some(x) => Ok(Some(map.place(x)?)),
@@ -34,16 +34,16 @@ pub fn place_of_position<M: OwnerMap>(
 
 /// How many positions `board` owns in all. Its ranks are the numbers below that.
 pub fn owned_count<M: OwnerMap>(map: &M, board: usize) -> Result<usize, Refusal>
-    ensures answer { Given (Board (meaning map.now) board) (λ c. c ≡ share (meaning map.now) board) result }
-    ensures law { RanksWithoutGap (meaning map.now) }
+    ensures answer { Given (Board (M.meaning map.now) board) (λ c. c ≡ share (M.meaning map.now) board) result }
+    ensures law { RanksWithoutGap (M.meaning map.now) }
 {
     map.count_below(board, map.length() + 1)
 }
 
 /// Whether `x` and `y` have one owner and one rank, which only a position and itself have.
 pub fn same_place<M: OwnerMap>(map: &M, x: usize, y: usize) -> Result<bool, Refusal>
-    ensures answer { Given (Position (meaning map.now) x × Position (meaning map.now) y) (λ same. same ≡ (x == y)) result }
-    ensures law { PlaceDetermines (meaning map.now) }
+    ensures answer { Given (Position (M.meaning map.now) x × Position (M.meaning map.now) y) (λ same. same ≡ (x == y)) result }
+    ensures law { PlaceDetermines (M.meaning map.now) }
 {
     let (owner, rank) = map.place(x)?;
     let (other_owner, other_rank) = map.place(y)?;
@@ -52,8 +52,8 @@ pub fn same_place<M: OwnerMap>(map: &M, x: usize, y: usize) -> Result<bool, Refu
 
 /// How many positions below `bound` any board owns: all of them.
 pub fn counted_by_all<M: OwnerMap>(map: &M, bound: usize) -> Result<usize, Refusal>
-    ensures answer { Given (Bound (meaning map.now) bound) (λ c. c ≡ bound - 1) result }
-    ensures law { CountsAddUp (meaning map.now) }
+    ensures answer { Given (Bound (M.meaning map.now) bound) (λ c. c ≡ bound - 1) result }
+    ensures law { CountsAddUp (M.meaning map.now) }
 {
     let mut total = 0;
     for board in 0..map.boards() {
@@ -69,9 +69,9 @@ pub fn owned_between<M: OwnerMap>(
     low: usize,
     high: usize,
 ) -> Result<usize, Refusal>
-    ensures answer { Given (Board (meaning map.now) board × Bound (meaning map.now) low × Bound (meaning map.now) high) (λ c. c ≡ below (meaning map.now) board high - below (meaning map.now) board low) result }
-    ensures grow { CountsGrow (meaning map.now) }
-    ensures rise { PositionsRise (meaning map.now) }
+    ensures answer { Given (Board (M.meaning map.now) board × Bound (M.meaning map.now) low × Bound (M.meaning map.now) high) (λ c. c ≡ below (M.meaning map.now) board high - below (M.meaning map.now) board low) result }
+    ensures grow { CountsGrow (M.meaning map.now) }
+    ensures rise { PositionsRise (M.meaning map.now) }
 {
     let first = map.count_below(board, low)?;
     let end = map.count_below(board, high)?;

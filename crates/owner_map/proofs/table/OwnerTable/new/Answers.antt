@@ -19,7 +19,7 @@ invariant_of-result c =
     let inv = c.loop-i.invariant in
     let whole = copy_all c.loop-i.row c.args.owners.now c.loop-i.i inv.0 c.loop-i-test.false inv.2 in
     let sound = sound_listed c.args.boards c.args.owners.now (omega arith) (omega arith) (omega arith) (omega arith) (λ k h. inv.3 k (omega arith)) in
-    (inv.1, (c.if-size-gt-MOST-POSITIONS.false, (rw whole sound, tt)))
+    record { room = inv.1; fits = c.if-size-gt-MOST_POSITIONS.false; sound = rw whole sound }
 
 pub returns : goal.returns
 returns c =
