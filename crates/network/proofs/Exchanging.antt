@@ -1,5 +1,5 @@
 -- The cases of a request to the pair, in terms of the two lists that hold it.
-use Rattle.std.proofs.Common.{◌≡◌, ℕ, ◌-◌, ◌<◌, ◌≤◌, List, [], length, get_or, set, Some, None, Option, refl, ap, arith}
+use Rattle.std.proofs.Common.{◌≡◌, ℕ, ◌<◌, ◌≤◌, List, [], length, get_or, set, Some, None, Option, refl, ap, arith}
 use Rattle.std.specs.Option.{option_to_list}
 use Rattle.network.specs.Request.{joined}
 use Rattle.network.specs.Exchange.{partner, other, exchanging, exchange, phases_left, partner_left}

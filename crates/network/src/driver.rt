@@ -37,11 +37,11 @@ impl Tally {
 
 /// Asks every board once, in turn.
 fn round<N: Boards>(boards: &mut N) -> Tally
-    ensures came_to { CameTo (requested (network boards.old) (depth boards.old)) (state boards.old) (in_turn (network boards.old).boards) result.ran result.ended (state boards.new) }
-    ensures same_network { network boards.new ≡ network boards.old }
-    ensures same_depth { depth boards.new ≡ depth boards.old }
-    ensures same_lent { lent boards.new ≡ lent boards.old }
-    ensures fewer_left { result.ran + left boards.new ≤ left boards.old }
+    ensures came_to { CameTo (requested (N.network boards.old) (N.depth boards.old)) (N.state boards.old) (in_turn (N.network boards.old).boards) result.ran result.ended (N.state boards.new) }
+    ensures same_network { N.network boards.new ≡ N.network boards.old }
+    ensures same_depth { N.depth boards.new ≡ N.depth boards.old }
+    ensures same_lent { N.lent boards.new ≡ N.lent boards.old }
+    ensures fewer_left { result.ran + N.left boards.new ≤ N.left boards.old }
 {
     let n = boards.count();
     let mut tally = Tally { ran: 0, ended: 0 };
@@ -53,11 +53,11 @@ fn round<N: Boards>(boards: &mut N) -> Tally
 
 /// Asks a list of requests, whichever boards it names.
 pub fn ask_all<N: Boards>(boards: &mut N, requests: &[usize]) -> Tally
-    ensures came_to { CameTo (requested (network boards.old) (depth boards.old)) (state boards.old) requests.now result.ran result.ended (state boards.new) }
-    ensures led { LedByAny (network boards.old) (depth boards.old) (state boards.old) requests.now }
-    ensures same_network { network boards.new ≡ network boards.old }
-    ensures same_depth { depth boards.new ≡ depth boards.old }
-    ensures same_lent { lent boards.new ≡ lent boards.old }
+    ensures came_to { CameTo (requested (N.network boards.old) (N.depth boards.old)) (N.state boards.old) requests.now result.ran result.ended (N.state boards.new) }
+    ensures led { LedByAny (N.network boards.old) (N.depth boards.old) (N.state boards.old) requests.now }
+    ensures same_network { N.network boards.new ≡ N.network boards.old }
+    ensures same_depth { N.depth boards.new ≡ N.depth boards.old }
+    ensures same_lent { N.lent boards.new ≡ N.lent boards.old }
 {
     let mut total = Tally { ran: 0, ended: 0 };
     for p in requests {
@@ -68,10 +68,10 @@ pub fn ask_all<N: Boards>(boards: &mut N, requests: &[usize]) -> Tally
 
 /// Goes round until no board runs in a round; whether every board has ended then.
 pub fn run_until_quiet<N: Boards>(boards: &mut N) -> bool
-    ensures went_round { WentRound (network boards.old) (depth boards.old) (state boards.old) (state boards.new) result }
-    ensures same_network { network boards.new ≡ network boards.old }
-    ensures same_depth { depth boards.new ≡ depth boards.old }
-    ensures same_lent { lent boards.new ≡ lent boards.old }
+    ensures went_round { WentRound (N.network boards.old) (N.depth boards.old) (N.state boards.old) (N.state boards.new) result }
+    ensures same_network { N.network boards.new ≡ N.network boards.old }
+    ensures same_depth { N.depth boards.new ≡ N.depth boards.old }
+    ensures same_lent { N.lent boards.new ≡ N.lent boards.old }
 {
     let n = boards.count();
     loop {

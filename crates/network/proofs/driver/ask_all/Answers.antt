@@ -22,7 +22,7 @@ returns g c =
     let b = g.N.Boards in
     let start = c.args.boards.now in
     record {
-      came-to = came_as inv.came (take_all _ _ c.loop-p-test.false);
+      came_to = came_as inv.came (take_all _ _ c.loop-p-test.false);
       led = led_by_any (b.network start) (b.depth start) (b.state start) c.args.requests.now;
       same_network = inv.same_network;
       same_depth = inv.same_depth;

@@ -20,7 +20,7 @@ pub returns : goal.returns
 returns g c =
     let inv = c.loop-p.invariant in
     record {
-      came-to = came_as inv.came (ap in_turn (omega arith));
+      came_to = came_as inv.came (ap in_turn (omega arith));
       same_network = inv.same_network;
       same_depth = inv.same_depth;
       same_lent = inv.same_lent;
