@@ -17,6 +17,6 @@ returns c =
     let high : c.args.bound ≤ m.size + 1 = omega arith in
     let t = below_front m.boards m.size m.front m.sizes.0 c.args.board c.args.bound board high in
     let part = c.front_of.ensures in
-    let in-front = c.min-in_front.ensures in
+    let in_front = c.min-in_front.ensures in
     let behind = c.saturating_sub-dealt.ensures in
-    (omega arith, rw (in-front, behind, part) (sym t))
+    (omega arith, rw (in_front, behind, part) (sym t))
