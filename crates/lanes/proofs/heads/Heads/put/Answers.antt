@@ -24,7 +24,7 @@ invariant_of-self g c =
     let h = c.args.self.now in
     let lying = heads_lying h c.args.from c.args.to c.pair-pair.result c.args.letters.now c.pair-pair.ensures.0 c.requires.served c.requires.room in
     let longer = longer_within lying c.args.letter c.round-at.result c.spot.result c.if-ring-self.false c.round-at.ensures.0 c.spot.ensures.0 in
-    (h.few, (length-set h.rings c.pair-pair.result _ ∙ h.table, (longer, (h.shallow, tt))))
+    record { few = h.few; table = length-set h.rings c.pair-pair.result _ ∙ h.table; within = longer; shallow = h.shallow }
 
 pub returns : goal.returns
 returns g c =

@@ -14,7 +14,7 @@ invariant_of-self g c =
     let h = c.args.self.now in
     let lying = heads_lying h c.args.from c.args.to c.pair-pair.result c.args.letters.now c.pair-pair.ensures.0 c.requires.served c.requires.room in
     let shorter = shorter_within lying c.index-letters-spot.result c.round.result c.spot.result c.if-ring-eq0.false c.spot.ensures.0 c.index-letters-spot.is c.round.ensures.0 c.round.ensures.1 in
-    (h.few, (length-set h.rings c.pair-pair.result _ ∙ h.table, (shorter, (h.shallow, tt))))
+    record { few = h.few; table = length-set h.rings c.pair-pair.result _ ∙ h.table; within = shorter; shallow = h.shallow }
 
 pub returns : goal.returns
 returns g c =
