@@ -17,8 +17,8 @@ loop-k-preserved g c =
     let k = c.loop-k.k in
     let within : k < length slots = omega arith in
     elim c.if-is_for.branch [
-      | then-is_for w ↦ (w.count_is ∙ ap (λ n. n + 1) c.loop-k.invariant.0 ∙ sym (count_mine from to slots k c.index-slots-k.result c.is_for.result within c.index-slots-k.is c.is_for.ensures w.if-is_for.true), omega (arith, w.count_is))
-      | else-is_for w ↦ (w.count_is ∙ c.loop-k.invariant.0 ∙ sym (count_other from to slots k c.index-slots-k.result c.is_for.result within c.index-slots-k.is c.is_for.ensures w.if-is_for.false), omega (arith, w.count_is))
+      | then-is_for w ↦ (w.count-is ∙ ap (λ n. n + 1) c.loop-k.invariant.0 ∙ sym (count_mine from to slots k c.index-slots-k.result c.is_for.result within c.index-slots-k.is c.is_for.ensures w.if-is_for.true), omega (arith, w.count-is))
+      | else-is_for w ↦ (w.count-is ∙ c.loop-k.invariant.0 ∙ sym (count_other from to slots k c.index-slots-k.result c.is_for.result within c.index-slots-k.is c.is_for.ensures w.if-is_for.false), omega (arith, w.count-is))
     ]
 
 pub returns : goal.returns
