@@ -1,5 +1,5 @@
 -- What the lines of an accepted sheet keep. Assumes nothing.
-use Rattle.std.proofs.Common.{◌≡◌, ℕ, zero, suc, ◌+◌, ◌-◌, ◌*◌, ◌<◌, ◌≤◌, Bool, true, false, cond, not, ◌&&◌, ltb, leb, List, [], ◌∷◌, length, get_or, sym, refl, ap, ◌∙◌, subst, arith}
+use Rattle.std.proofs.Common.{◌≡◌, ℕ, zero, suc, ◌-◌, ◌*◌, Bool, true, false, cond, not, ltb, leb, List, [], ◌∷◌, length, get_or, sym, refl, ap, ◌∙◌, subst, arith}
 use Rattle.std.proofs.lemmas.Bool.{and_from, and_parts, leb-true, lt-ltb}
 use Rattle.tokens.specs.Texts.{Text, Piece, Read, got, refused, then, Form, fields_of, nothing_left}
 use Rattle.tokens.specs.Values.{magnitude, begins_with}
@@ -14,7 +14,7 @@ use Rattle.nest.specs.declared.terms.Offset.TheVariants.{Plus, Minus}
 use Rattle.nest.specs.declared.terms.Subscript.{Subscript}
 use Rattle.nest.specs.declared.terms.Access.{Access}
 use Rattle.nest.specs.declared.terms.ReadTerm.{ReadTerm}
-use Rattle.sheet.specs.Verdicts.{Verdict, fine, wrong, ◌>>=◌, wrong_at, nth, within, offset_of, map_of, mode_of, variable_of, access_of, grid_of, array_of, range_from, Head, head_of, put_of, read_of, count_of}
+use Rattle.sheet.specs.Verdicts.{Verdict, fine, wrong, ◌>>=◌, nth, within, offset_of, map_of, variable_of, access_of, grid_of, array_of, range_from, Head, head_of, put_of, read_of, count_of}
 use Rattle.nest.specs.Terms.{far, inside, nowhere}
 use Rattle.sheet.specs.Lines.{judged, line_by, times, statement_of, lines_of}
 use Rattle.nest.specs.Terms.{Said, Sheet}

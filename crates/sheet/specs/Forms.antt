@@ -1,5 +1,5 @@
 -- The form of each kind of line: its key, and the kinds of its fields. Assumes nothing.
-use Rattle.std.specs.Prelude.{List, [], ◌∷◌, codes}
+use Rattle.std.specs.Prelude.{[], ◌∷◌, codes}
 use Rattle.tokens.specs.declared.extent.FieldKind.TheVariants.{Number, Signed, Mode, Variable, Map}
 use Rattle.tokens.specs.Texts.{Form}
 

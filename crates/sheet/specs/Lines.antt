@@ -2,14 +2,9 @@
 use Rattle.std.specs.Prelude.{ℕ, zero, suc, List, [], ◌∷◌}
 use Rattle.tokens.specs.Texts.{Text, Piece, Read, got, refused, then, Form, fields_of, nothing_left}
 use Rattle.nest.specs.Terms.{Said, Sheet}
-use Rattle.nest.specs.declared.terms.Grid.{Grid}
 use Rattle.nest.specs.declared.terms.Array.{Array}
-use Rattle.nest.specs.declared.terms.Mode.{Mode}
-use Rattle.nest.specs.declared.terms.Range.{Range}
-use Rattle.nest.specs.declared.terms.Access.{Access}
-use Rattle.nest.specs.declared.terms.ReadTerm.{ReadTerm}
 use Rattle.sheet.specs.Forms.{grid_form, arrays_form, array_form, sweeps_form, stmts_form, stmt_form, put_form, base_form, reads_form, read_form}
-use Rattle.sheet.specs.Verdicts.{Verdict, fine, wrong, Head, grid_of, array_of, head_of, put_of, read_of, count_of}
+use Rattle.sheet.specs.Verdicts.{Verdict, fine, wrong, grid_of, array_of, head_of, put_of, read_of, count_of}
 
 -- first the one, and then, with its value, the other on the text behind it
 infixl 20 ◌>>=◌

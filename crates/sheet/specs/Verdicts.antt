@@ -1,5 +1,5 @@
 -- What the fields of a line say, once the line has its form. Assumes nothing.
-use Rattle.std.specs.Prelude.{ℕ, ◌+◌, ◌-◌, ◌*◌, ◌≤◌, Bool, true, false, cond, ◌&&◌, List, [], ◌∷◌, length, get_or, nat_le, slice_index_or}
+use Rattle.std.specs.Prelude.{ℕ, ◌-◌, ◌*◌, ◌≤◌, cond, List, [], length, get_or, nat_le, slice_index_or}
 use Rattle.tokens.specs.Texts.{Piece}
 use Rattle.tokens.specs.Values.{magnitude, begins_with}
 use Rattle.nest.specs.Terms.{far, inside, nowhere}

@@ -10,11 +10,10 @@ use Rattle.sheet.proofs.Outcomes.{answer_inside, answer_lines, answer_fault}
 use Rattle.sheet.proofs.reader.read_sheet.Goals as goal
 
 pub invariant_of-result : goal.invariant_of-result
-invariant_of-result c = (
-  sheet_kept (start c.args.bytes.now) (parted c.in_ok-grid.field-0) (before c.parts_of.new.cursor)
-      (sym (c.in_ok-grid.ensures refl ∙ ap lines_of c.new-cursor.ensures)),
-  tt,
-)
+invariant_of-result c = record {
+  kept = sheet_kept (start c.args.bytes.now) (parted c.in_ok-grid.field-0) (before c.parts_of.new.cursor)
+      (sym (c.in_ok-grid.ensures refl ∙ ap lines_of c.new-cursor.ensures));
+}
 
 pub returns-in_err-grid : goal.returns-in_err-grid
 returns-in_err-grid c =
