@@ -1,9 +1,9 @@
 -- Elements and places below the total match one to one. Assumes nothing.
-use Rattle.std.proofs.Common.{◌≡◌, ℕ, zero, suc, ◌+◌, ◌-◌, ◌*◌, ◌/◌, ◌%◌, ◌<◌, ◌≤◌, List, [], ◌∷◌, sym, refl, ap, ◌∙◌, subst, ⊎_elim, mod-lt, mul_comm, mul-zero, div-add-mod', arith}
+use Rattle.std.proofs.Common.{◌≡◌, ℕ, zero, suc, ◌+◌, ◌-◌, ◌*◌, ◌/◌, ◌%◌, ◌<◌, ◌≤◌, List, [], ◌∷◌, sym, refl, ap, ◌∙◌, ⊎_elim, mod-lt, mul_comm, mul-zero, div-add-mod', arith}
 use Rattle.std.proofs.lemmas.Nat.{mul-add-lt, div-mul-add, mod-mul-add, div_below}
 use Rattle.std.proofs.lemmas.Bool.{cases_lt}
 use Rattle.nest.specs.declared.terms.Array.{Array}
-use Rattle.layout.specs.Places.{size_of, total, IsElement, place_of, PlaceBelow, PlaceAlone, PlaceTaken, OnePlaceEach}
+use Rattle.layout.specs.Places.{size_of, IsElement, place_of, PlaceBelow, PlaceAlone, PlaceTaken, OnePlaceEach}
 
 -- within one array
 cell_below : (a : Array) (x y : ℕ) → 1 ≤ x → x ≤ a.rows → 1 ≤ y → y ≤ a.columns → (x - 1) * a.columns + (y - 1) < size_of a

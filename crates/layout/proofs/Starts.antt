@@ -1,10 +1,10 @@
 -- Where arrays begin, and the places behind that. Assumes nothing.
-use Rattle.std.proofs.Common.{◌≡◌, ℕ, zero, suc, ◌+◌, ◌-◌, ◌*◌, ◌<◌, ◌≤◌, true, ◌≢◌, List, [], ◌∷◌, length, get_or, set, sym, refl, ap, ◌∙◌, subst, ⊎_elim, add-zero, add_assoc, add-one, arith, get_or-set_other, get_or-set_same}
+use Rattle.std.proofs.Common.{◌≡◌, ℕ, zero, suc, ◌+◌, ◌-◌, ◌*◌, ◌<◌, ◌≤◌, true, ◌≢◌, List, [], ◌∷◌, length, get_or, set, refl, ap, ◌∙◌, ⊎_elim, arith, get_or-set_other, get_or-set_same}
 use Rattle.std.proofs.lemmas.Nat.{mul-le}
 use Rattle.std.proofs.lemmas.Bool.{and_parts, cases_order}
 use Rattle.nest.specs.declared.terms.Grid.{Grid}
 use Rattle.nest.specs.declared.terms.Array.{Array}
-use Rattle.nest.specs.Terms.{Said, nowhere}
+use Rattle.nest.specs.Terms.{Said}
 use Rattle.nest.specs.Sound.{each, array_kept, nest_kept}
 use Rattle.nest.proofs.Keeps.{array_parts, nest_parts}
 use Rattle.layout.specs.Places.{size_of, total, IsElement, place_of, start_of, array_at, Small}

@@ -1,6 +1,6 @@
-use Rattle.std.proofs.Common.{◌≡◌, ◌<◌, length, sym, refl, ap, ◌∙◌, subst, arith, length-set}
+use Rattle.std.proofs.Common.{◌≡◌, ◌<◌, length, sym, refl, ap, ◌∙◌, arith, length-set}
 use Rattle.layout.specs.Places.{start_of}
-use Rattle.layout.proofs.Starts.{Begun, begun_more, start_none, start_more, start_all, size_small, sum_room}
+use Rattle.layout.proofs.Starts.{begun_more, start_none, start_more, start_all, size_small, sum_room}
 use Rattle.layout.proofs.places.layout_of.Goals as goal
 
 pub loop-t-init : goal.loop-t-init
@@ -22,7 +22,4 @@ loop-t-preserved c =
 
 pub invariant_of-result : goal.invariant_of-result
 invariant_of-result c =
-    let end : c.loop-t.t ≡ length c.args.arrays.now = omega (arith, c.loop-t-test.false, c.loop-t.auto.t-end) in (
-      c.requires.0,
-      (c.requires.1, (λ k h. c.loop-t.invariant.2 k (omega arith), (c.loop-t.invariant.1 ∙ ap (start_of c.args.arrays.now) end ∙ start_all c.args.arrays.now, tt))),
-    )
+    let end : c.loop-t.t ≡ length c.args.arrays.now = omega (arith, c.loop-t-test.false, c.loop-t.auto.t-end) in record { few = c.requires.0; small = c.requires.1; begun = (λ k h. c.loop-t.invariant.2 k (omega arith)); summed = c.loop-t.invariant.1 ∙ ap (start_of c.args.arrays.now) end ∙ start_all c.args.arrays.now }

@@ -13,7 +13,7 @@ returns-then-row-lt1 c =
     let w = c.then-row-lt1.either in
     omega (arith, h.1, h.2, h.3, h.4)
 
-room : (c : goal.After-result·1) → get_or c.args.self.now.starts c.args.array 0 + (c.args.row - 1) * (array_at c.args.self.now.arrays.now c.args.array).columns + (c.args.column - 1) < 8192
+room : (c : goal.After-result-1) → get_or c.args.self.now.starts c.args.array 0 + (c.args.row - 1) * (array_at c.args.self.now.arrays.now c.args.array).columns + (c.args.column - 1) < 8192
 room c =
     place_room c.args.self.now.arrays.now c.args.self.now.starts c.args.self.now.few c.args.self.now.small c.args.self.now.begun c.args.array c.args.row c.args.column
     c.if-array-self.false c.if-rows-row.false c.if-columns-column.false
