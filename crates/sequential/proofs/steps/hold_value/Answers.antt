@@ -8,5 +8,5 @@ place_in-requires g c = target_reached c.args.layout.now.arrays.now (said c.args
 
 pub offset_bounds-held-place_in : goal.offset_bounds-held-place_in
 offset_bounds-held-place_in g c =
-    let below : c.place_in_lem.result < length c.args.held.now = omega (arith, c.place_in_lem.ensures.below, c.requires.ready.held_all) in
+    let below : c.place_in.result < length c.args.held.now = omega (arith, c.place_in.ensures.below, c.requires.ready.held_all) in
     search rules

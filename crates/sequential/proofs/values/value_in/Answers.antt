@@ -29,8 +29,8 @@ pub loop-term-preserved : goal.loop-term-preserved
 loop-term-preserved g c = λ d.
     value_more (setting_of g.T.NumberKind.sum g.T.NumberKind.product c.args.coefficients.now c.args.layout.now.arrays.now d)
     c.args.elements.now c.args.at (get_or c.args.coefficients.now c.args.statement.now.base d) c.as_slice-reads.result.now c.loop-term.term-index _
-    c.place_in_lem.result c.index-elements-place_in.result c.index-coefficients-term.result c.times.result c.loop-term.value c.plus-value.result
-    c.loop-term-test.true (c.loop-term.invariant d) c.place_in_lem.ensures.place (omega (arith, c.place_in_lem.ensures.below)) c.index-elements-place_in.is
+    c.place_in.result c.index-elements-place_in.result c.index-coefficients-term.result c.times.result c.loop-term.value c.plus-value.result
+    c.loop-term-test.true (c.loop-term.invariant d) c.place_in.ensures.place (omega (arith, c.place_in.ensures.below)) c.index-elements-place_in.is
     (read_coefficient c.args.layout.now.arrays.now (said c.args.statement.now) (parts_of _ _ c.requires.ready.kept) c.as_slice-reads.result.now c.as_slice-reads.ensures.value c.loop-term.term-index _ _ c.requires.ready.eight c.loop-term-test.true)
     c.index-coefficients-term.is c.times.ensures c.plus-value.ensures
 
