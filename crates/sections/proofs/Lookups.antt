@@ -1,11 +1,11 @@
 -- A deal's answers, read from rows.
-use Rattle.std.proofs.Common.{◌≡◌, ℕ, ◌+◌, ◌-◌, ◌*◌, ◌<◌, ◌≤◌, List, length, get_or, take, Some, None, Option, unwrap_or, sym, ap, ◌∙◌, subst, ⊎_elim, arith}
+use Rattle.std.proofs.Common.{◌≡◌, ℕ, ◌+◌, ◌-◌, ◌*◌, ◌<◌, ◌≤◌, List, length, get_or, take, Some, None, unwrap_or, sym, ap, ◌∙◌, ⊎_elim, arith}
 use Rattle.std.proofs.lemmas.List.{length-take-le, get_or-take}
 use Rattle.std.proofs.lemmas.Bool.{cases_order}
 use Rattle.owner_map.specs.Listed.{listed}
 use Rattle.owner_map.specs.Meaning.{Deal, Sound, Position, extent, owner, rank, share, position}
 use Rattle.owner_map.specs.Deals.{below_le, some_below_share, none_past_share, position_undone}
-use Rattle.sections.specs.MapRows.{RanksIn, SharesIn, PositionsIn}
+use Rattle.sections.specs.MapRows.{RanksIn, PositionsIn}
 
 -- how far the written owners go
 pub extent_is : (boards size : ℕ) (owners : List ℕ) → size ≤ 32 → length owners ≡ 32 → extent (listed boards (take size owners)) ≡ size

@@ -1,10 +1,10 @@
 -- A deal's answers written into rows, position by position.
-use Rattle.std.proofs.Common.{◌≡◌, ℕ, ◌+◌, ◌-◌, ◌*◌, ◌<◌, ◌≤◌, ◌≢◌, List, [], ◌∷◌, ◌++◌, length, get_or, take, set, Some, unwrap_or, sym, ap, ◌∙◌, subst, ap₂, ⊎_elim, arith, length-set, get_or-set_other, get_or-set_same, below_more}
+use Rattle.std.proofs.Common.{◌≡◌, ℕ, ◌+◌, ◌-◌, ◌*◌, ◌<◌, ◌≢◌, List, [], ◌∷◌, ◌++◌, length, get_or, take, set, unwrap_or, sym, ap, ◌∙◌, subst, ap₂, arith, length-set, get_or-set_other, get_or-set_same, below_more}
 use Rattle.std.proofs.lemmas.List.{take_more, take_more_set, take_all}
 use Rattle.owner_map.specs.Listed.{listed}
-use Rattle.owner_map.specs.Meaning.{Deal, Sound, Position, Board, extent, owner, rank, share, position}
+use Rattle.owner_map.specs.Meaning.{Deal, Sound, Position, extent, owner, rank, share}
 use Rattle.owner_map.specs.Deals.{place_determines, position_undone, some_below_share}
-use Rattle.sections.specs.MapRows.{OwnersIn, RanksIn, SharesIn, PositionsIn}
+use Rattle.sections.specs.MapRows.{OwnersIn, RanksIn, PositionsIn}
 use Rattle.sections.proofs.Cells.{rank_below}
 use Rattle.sections.proofs.Lookups.{share_small}
 

@@ -8,7 +8,8 @@ use Rattle.layout.specs.Places.{total, IsElement, place_of}
 use Rattle.owner_map.specs.Meaning.{Deal}
 use Rattle.sections.specs.declared.way.Way.{Way}
 use Rattle.sections.specs.declared.way.Way.TheVariants.{IntoSections, IntoArrays}
-use Rattle.sections.specs.Sections.{Deals, Fits, dealt, section_of}
+use Rattle.sections.specs.Sections.{Deals, dealt, section_of}
+use Rattle.sections.specs.Starts.{Ready}
 
 -- which way the elements of which arrays go, and how they are dealt out
 pub record Course : Type 0 where
@@ -54,11 +55,7 @@ AllRight c from to = (t : ℕ) → ArrayRight c from to t
 abbrev pub StaysRight : {T : Type 0} → Course → List T → List T → List T → Type 0
 StaysRight c from to later = (k : ℕ) → Right c from to k → Right c from later k
 
--- deals over this grid fit a nest
-abbrev pub Ready : Grid → List Array → Deals → Grid → Type 0
-Ready grid arrays deals over = Fits grid arrays deals × (over ≡ grid)
-
--- everything is at hand for the walk: fitting deals over this grid, the layout of these arrays, buffers of these lengths
-abbrev pub AtHand : Course → Grid → List Array → ℕ → ℕ → Type 0
-AtHand c over laid read written =
-    Ready c.grid c.arrays c.deals over × (laid ≡ c.arrays) × (read ≡ total c.arrays) × (written ≡ total c.arrays)
+-- everything is at hand for the walk: fitting deals with their starts, the layout of these arrays, buffers of these lengths
+abbrev pub AtHand : Course → List ℕ → List Array → ℕ → ℕ → Type 0
+AtHand c starts laid read written =
+    Ready c.grid c.arrays c.deals starts × (laid ≡ c.arrays) × (read ≡ total c.arrays) × (written ≡ total c.arrays)

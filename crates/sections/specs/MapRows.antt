@@ -1,5 +1,5 @@
 -- Rows of numbers that hold the answers of a deal.
-use Rattle.std.specs.Prelude.{◌≡◌, ℕ, ◌+◌, ◌*◌, ◌<◌, List, length, take, slice_index}
+use Rattle.std.specs.Prelude.{◌≡◌, ℕ, ◌+◌, ◌*◌, ◌<◌, List, take, slice_index}
 use Rattle.std.specs.Option.{unwrap_or}
 use Rattle.owner_map.specs.Meaning.{Deal, Board, extent, position, rank, share}
 

@@ -7,8 +7,9 @@ ghost use Rattle.sections.specs.Order.{PlaceIsIndex};
 ghost use Rattle.sections.specs.SectionLaws.{OneSectionEach};
 ghost use Rattle.sections.specs.Sections.{dealt};
 
-use super::dealt::Dealt;
+use super::fitting::maps_fit;
 use super::refusal::LayoutRefusal;
+use super::starts::part_starts;
 use super::walk::Walk;
 use super::way::Way;
 use layout::table::Layout;
@@ -16,30 +17,32 @@ use nest::nest::Nest;
 use owner_map::OwnerMap;
 
 /// Carries every element from one buffer to the other, unless the maps or a buffer's length differ from the nest.
-fn carry<T: Copy, R: OwnerMap, C: OwnerMap>(
+fn carry<'a, T: Copy, R: OwnerMap, C: OwnerMap>(
     way: Way,
-    nest: &Nest,
-    row_maps: &[R],
-    column_maps: &[C],
+    nest: &'a Nest,
+    row_maps: &'a [R],
+    column_maps: &'a [C],
     from: &[T],
     to: &mut [T],
 ) -> Result<(), LayoutRefusal>
     ensures { Answered (shown nest.now) (dealt (map R.OwnerMap.meaning row_maps.now) (map C.OwnerMap.meaning column_maps.now)) (length from.now) (length to.old) (AllRight (course_of way (shown nest.now) (map R.OwnerMap.meaning row_maps.now) (map C.OwnerMap.meaning column_maps.now)) from.now to.new) (to.new ≡ to.old) result }
 {
-    let dealt = match Dealt::new(nest, row_maps, column_maps) {
-        Ok(dealt) => dealt,
-        Err(refusal) => return Err(refusal),
-    };
+    if !maps_fit(nest, row_maps, column_maps) {
+        return Err(LayoutRefusal::MapsDiffer);
+    }
     let layout = Layout::new(nest);
     let total = layout.total();
     if from.len() != total || to.len() != total {
         return Err(LayoutRefusal::WrongLength);
     }
+    let starts = part_starts(nest, row_maps, column_maps);
     let walk = Walk {
         way,
         nest,
         layout,
-        dealt,
+        starts,
+        row_maps,
+        column_maps,
     };
     walk.carry_all(from, to);
     Ok(())

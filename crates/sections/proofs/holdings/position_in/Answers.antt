@@ -1,6 +1,6 @@
 use Rattle.std.proofs.Common.{map, sym, ap, ◌∙◌, arith}
 use Rattle.std.proofs.lemmas.List.{length-map, get_or_past}
-use Rattle.owner_map.specs.Meaning.{Deal, position}
+use Rattle.owner_map.specs.Meaning.{position}
 use Rattle.sections.specs.MapTables.{tabled}
 use Rattle.sections.specs.Sections.{undealt}
 use Rattle.sections.proofs.Lookups.{stranger}

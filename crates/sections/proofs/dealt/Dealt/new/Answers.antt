@@ -1,4 +1,4 @@
-use Rattle.std.proofs.Common.{◌≡◌, ◌*◌, ◌≤◌, map, length, take, vec_items, sym, ap, subst, arith}
+use Rattle.std.proofs.Common.{◌≡◌, ◌*◌, ◌≤◌, map, length, take, vec_items, sym, subst}
 use Rattle.nest.specs.Views.{said_all}
 use Rattle.sections.specs.MapTables.{tabled}
 use Rattle.sections.specs.Sections.{Deals, dealt}
@@ -34,7 +34,7 @@ invariant_of-result g c =
     let kept : Kept c.grid.result written starts = subst (λ h. Kept h written starts) (sym c.grid.ensures) (subst (λ ds. Kept grid ds starts) (sym same) here) in
     let few : length rows ≤ 4 = (rows_count g.R.OwnerMap.meaning g.C.OwnerMap.meaning grid arrays rows columns fit room).1 in
     let boards : c.grid.result.rows * c.grid.result.columns ≤ 8 = subst (λ h. h.rows * h.columns ≤ 8) (sym c.grid.ensures) room.boards in
-    (few, (c.tables_of-rows.ensures.room, (c.tables_of-columns.ensures.room, (c.part_starts-starts.ensures.room, (boards, (kept.0, (kept.1, (kept.2, tt))))))))
+    record { few = few; row_room = c.tables_of-rows.ensures.room; column_room = c.tables_of-columns.ensures.room; start_room = c.part_starts-starts.ensures.room; boards = boards; over = kept.0; begun = kept.1; low = kept.2 }
 
 pub returns : goal.returns
 returns g c =

@@ -1,4 +1,4 @@
-use Rattle.std.proofs.Common.{◌≡◌, arith}
+use Rattle.std.proofs.Common.{arith}
 use Rattle.sections.proofs.Lookups.{placed}
 use Rattle.sections.proofs.lookup.MapTableOwnerMap.place.Goals as goal
 

@@ -1,9 +1,8 @@
-use Rattle.std.proofs.Common.{◌≡◌, vec_items, ap, ◌∙◌, arith}
+use Rattle.std.proofs.Common.{◌≡◌, map, vec_items, ap, ◌∙◌, arith}
 use Rattle.nest.specs.Nests.{shown}
 use Rattle.layout.specs.Places.{array_at}
 use Rattle.layout.proofs.Starts.{element_here}
 use Rattle.sections.specs.Carry.{course_of}
-use Rattle.sections.specs.Dealings.{deals_of}
 use Rattle.sections.proofs.Carrying.{rows_more}
 use Rattle.sections.proofs.walk.Walk.carry_array.Goals as goal
 
@@ -17,7 +16,7 @@ carry_row-requires g c =
 
 pub loop-before-preserved : goal.loop-before-preserved
 loop-before-preserved g c =
-    rows_more (course_of c.args.self.now.way (shown c.args.self.now.nest.now) (deals_of c.args.self.now.dealt).rows (deals_of c.args.self.now.dealt).columns) c.args.from.now c.args.to.now c.loop-before.to c.carry_row.new.to c.args.array c.loop-before.before c.loop-before.invariant c.carry_row.ensures.carried c.carry_row.ensures.kept
+    rows_more (course_of c.args.self.now.way (shown c.args.self.now.nest.now) (map g.R.OwnerMap.meaning c.args.self.now.row_maps.now) (map g.C.OwnerMap.meaning c.args.self.now.column_maps.now)) c.args.from.now c.args.to.now c.loop-before.to c.carry_row.new.to c.args.array c.loop-before.before c.loop-before.invariant c.carry_row.ensures.carried c.carry_row.ensures.kept
 
 pub returns : goal.returns
 returns g c =
