@@ -1,5 +1,5 @@
 -- The parts of a program make the program of the nest. Assumes nothing.
-use Rattle.std.proofs.Common.{◌≡◌, ℕ, ◌≤◌, true, List, map, length, sum_by, sym, ap, ◌∙◌, subst, arith}
+use Rattle.std.proofs.Common.{◌≡◌, ◌≤◌, true, List, map, length, sum_by, sym, ap, ◌∙◌, subst, arith}
 use Rattle.std.specs.List.{range_with_len}
 use Rattle.std.proofs.lemmas.List.FromFn.{length-map-range_with_len}
 use Rattle.std.proofs.lemmas.List.{length-map}
@@ -14,7 +14,7 @@ use Rattle.compiler.specs.declared.parts.PairLetters.{PairLetters}
 use Rattle.compiler.specs.Compiled.{OneBoard, Compiled, one_board, counts_of, pairs_of, board_of}
 use Rattle.compiler.specs.Keeping.{program_kept}
 use Rattle.compiler.specs.Laws.{AllSound}
-use Rattle.compiler.specs.Totals.{boards_of, board_steps, steps_of}
+use Rattle.compiler.specs.Totals.{boards_of, steps_of}
 use Rattle.compiler.proofs.ListSums.{sums_map}
 use Rattle.compiler.proofs.ProgramKept.{program_kept_lem}
 

@@ -8,7 +8,6 @@ use Rattle.nest.specs.declared.terms.Variable.TheVariants.{I, J}
 use Rattle.compiler.specs.declared.order.Order.{Order}
 use Rattle.compiler.specs.declared.order.Task.{Task}
 use Rattle.compiler.specs.declared.order.Task.TheVariants.{Ship, Base, Add, Store}
-use Rattle.compiler.specs.declared.order.Work.{Work}
 use Rattle.compiler.specs.declared.order.Work.TheVariants.{One, Walk}
 use Rattle.compiler.specs.declared.span.SpanKind.{SpanKind}
 use Rattle.compiler.specs.declared.span.SpanKind.TheVariants.{Plain}

@@ -23,10 +23,7 @@ invariant_of-result g c =
     let sheet : Sheet = shown c.args.nest.now in
     let deals : Deals = dealt (map g.R.OwnerMap.meaning c.args.row_maps.now) (map g.C.OwnerMap.meaning c.args.column_maps.now) in
     let copy : Sheet = shown c.in_ok-copy.copy in
-    let same = c.in_ok-copy.ensures in (
-      boards_kept sheet deals (vec_items c.in_ok-boards.boards) c.in_ok-boards.ensures.whole c.args.nest.now.kept copy same,
-      (tables_all sheet deals copy same (vec_items c.in_ok-totals.totals.pairs) c.in_ok-totals.ensures.pairs, tt),
-    )
+    let same = c.in_ok-copy.ensures in record { kept = boards_kept sheet deals (vec_items c.in_ok-boards.boards) c.in_ok-boards.ensures.whole c.args.nest.now.kept copy same; tables = tables_all sheet deals copy same (vec_items c.in_ok-totals.totals.pairs) c.in_ok-totals.ensures.pairs }
 
 pub returns : goal.returns
 returns g c =

@@ -1,4 +1,4 @@
-use Rattle.std.proofs.Common.{◌≡◌, ◌+◌, ◌-◌, arith}
+use Rattle.std.proofs.Common.{◌≡◌, ◌+◌, arith}
 use Rattle.nest.specs.Views.{said}
 use Rattle.sequential.proofs.Turns.{row_more, rows_more, rows_all}
 use Rattle.sequential.specs.Ready.{Within}

@@ -14,7 +14,7 @@ bounds-row_maps-owning g c =
 pub counts_below-requires : goal.counts_below-requires
 counts_below-requires g c =
     rows_asked g.R.OwnerMap.meaning g.C.OwnerMap.meaning (shown c.args.self.now.nest.now) c.args.self.now.row_maps.now c.args.self.now.column_maps.now c.args.self.now.board c.args.owning c.args.low c.args.past c.requires
-    c.grid_rows.result c.grid_rows.ensures c.in-Rows.is c.index-row_maps-owning.result c.index-row_maps-owning.is
+    c.grid-rows.result c.grid-rows.ensures c.in-Rows.is c.index-row_maps-owning.result c.index-row_maps-owning.is
 
 pub offset_bounds-column_maps-owning : goal.offset_bounds-column_maps-owning
 offset_bounds-column_maps-owning g c =
@@ -27,14 +27,14 @@ bounds-column_maps-owning g c =
 pub counts_below-requires-in-Columns : goal.counts_below-requires-in-Columns
 counts_below-requires-in-Columns g c =
     columns_asked g.R.OwnerMap.meaning g.C.OwnerMap.meaning (shown c.args.self.now.nest.now) c.args.self.now.row_maps.now c.args.self.now.column_maps.now c.args.self.now.board c.args.owning c.args.low c.args.past c.requires
-    c.grid_rows.result c.grid_rows.ensures c.in-Columns.is c.index-column_maps-owning.result c.index-column_maps-owning.is
+    c.grid-rows.result c.grid-rows.ensures c.in-Columns.is c.index-column_maps-owning.result c.index-column_maps-owning.is
 
 pub returns-in-Rows : goal.returns-in-Rows
 returns-in-Rows g c =
     rows_told g.R.OwnerMap.meaning g.C.OwnerMap.meaning (shown c.args.self.now.nest.now) c.args.self.now.row_maps.now c.args.self.now.column_maps.now c.args.self.now.board c.args.owning c.args.low c.args.past c.requires
-    c.grid_rows.result c.grid_rows.ensures c.in-Rows.is c.index-row_maps-owning.result c.index-row_maps-owning.is c.counts_below.result c.counts_below.ensures
+    c.grid-rows.result c.grid-rows.ensures c.in-Rows.is c.index-row_maps-owning.result c.index-row_maps-owning.is c.counts_below.result c.counts_below.ensures
 
 pub returns-in-Columns : goal.returns-in-Columns
 returns-in-Columns g c =
     columns_told g.R.OwnerMap.meaning g.C.OwnerMap.meaning (shown c.args.self.now.nest.now) c.args.self.now.row_maps.now c.args.self.now.column_maps.now c.args.self.now.board c.args.owning c.args.low c.args.past c.requires
-    c.grid_rows.result c.grid_rows.ensures c.in-Columns.is c.index-column_maps-owning.result c.index-column_maps-owning.is c.counts_below-in-Columns.result c.counts_below-in-Columns.ensures
+    c.grid-rows.result c.grid-rows.ensures c.in-Columns.is c.index-column_maps-owning.result c.index-column_maps-owning.is c.counts_below-in-Columns.result c.counts_below-in-Columns.ensures

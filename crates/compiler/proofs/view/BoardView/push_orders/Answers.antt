@@ -11,7 +11,7 @@ push_task_orders-requires g c =
     let rows = map g.R.OwnerMap.meaning c.args.self.now.row_maps.now in
     let columns = map g.C.OwnerMap.meaning c.args.self.now.column_maps.now in
     let s = said c.args.statement.now in
-    subst (AllOrderable (seat_in n rows columns c.args.self.now.board) s) (sym (c.as_slice.ensures.value ∙ c.in_ok-tasks.ensures))
+    subst (AllOrderable (seat_in n rows columns c.args.self.now.board) s) (sym (c.as_slice.ensures.value ∙ c.in_ok-tasks-in-All.ensures))
     (tasks_orderable n rows columns c.args.self.now.board c.requires.seated s c.requires.kept)
 
 pub walk_order-requires : goal.walk_order-requires
