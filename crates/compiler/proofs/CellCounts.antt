@@ -1,6 +1,6 @@
 -- How many steps orders take. Assumes nothing.
 use Rattle.std.proofs.Common.{◌≡◌, ℕ, suc, ◌+◌, ◌*◌, List, [], ◌∷◌, map, length, get_or, sym, refl, ap, ◌∙◌, ap₂, arith}
-use Rattle.std.specs.List.{AllByRecursion as All}
+use Rattle.std.specs.List.{AllByRecursion}
 use Rattle.std.proofs.ByRecursion.{All-map, All-weaker}
 use Rattle.std.proofs.lemmas.List.{length-map, length-append}
 use Rattle.nest.specs.Terms.{Said}
@@ -23,12 +23,12 @@ pub length_tasks : (s : Said) → length (tasks_of s) ≡ 2 * length s.reads + 2
 length_tasks s = simp (length-append, length-map) (omega arith)
 
 -- what holds of everything holds of each of a list
-pub every : {X : Type 0} {P : X → Type 0} → ((x : X) → P x) → (xs : List X) → All P xs
+pub every : {X : Type 0} {P : X → Type 0} → ((x : X) → P x) → (xs : List X) → AllByRecursion P xs
 every h [] = tt
 every h (x ∷ xs) = (h x, every h xs)
 
 -- the number at the place of each of a numbered list
-numbered_at : {X : Type 0} (f : X → ℕ) (ns : List ℕ) (a : ℕ) (xs : List X) → ((i : ℕ) → get_or ns (a + i) 0 ≡ get_or (map f xs) i 0) → All (λ kx. get_or ns kx.0 0 ≡ f kx.1) (numbered a xs)
+numbered_at : {X : Type 0} (f : X → ℕ) (ns : List ℕ) (a : ℕ) (xs : List X) → ((i : ℕ) → get_or ns (a + i) 0 ≡ get_or (map f xs) i 0) → AllByRecursion (λ kx. get_or ns kx.0 0 ≡ f kx.1) (numbered a xs)
 numbered_at f ns a [] h = tt
 numbered_at f ns a (x ∷ xs) h = (
   let e : a ≡ a + 0 = omega arith in ap (λ n. get_or ns n 0) e ∙ h 0,
@@ -36,7 +36,7 @@ numbered_at f ns a (x ∷ xs) h = (
 )
 
 -- all orders of a statement bear its number
-numbers_of : (m : Mode) (b : Seat) (k : ℕ) (s : Said) → All (λ o. o.statement ≡ k) (orders_by m b k s)
+numbers_of : (m : Mode) (b : Seat) (k : ℕ) (s : Said) → AllByRecursion (λ o. o.statement ≡ k) (orders_by m b k s)
 numbers_of AllAtOnce b k s = All-map (λ o. o.statement ≡ k) (task_order b k s) (tasks_of s) (every (λ t. refl) (tasks_of s))
 numbers_of Seq b k s = (refl, tt)
 

@@ -1,12 +1,12 @@
 -- Lists joined, filtered and searched. Assumes nothing.
 use Rattle.std.proofs.Common.{◌≡◌, Bool, true, false, cond, ◌&&◌, List, [], ◌∷◌, ◌++◌, map, Some, filter, sym, refl, ap, ◌∙◌, ap₂, inl, inr}
-use Rattle.std.specs.List.{flat_map, AllByRecursion as All}
+use Rattle.std.specs.List.{flat_map, AllByRecursion}
 use Rattle.std.proofs.lemmas.List.{append_assoc}
 use Rattle.sequential.specs.Laws.{In}
 use Rattle.compiler.specs.Cells.{present}
 
 -- what holds of all of a list holds of one of it
-pub all_in : {X : Type 0} (P : X → Type 0) (xs : List X) (x : X) → All P xs → In x xs → P x
+pub all_in : {X : Type 0} (P : X → Type 0) (xs : List X) (x : X) → AllByRecursion P xs → In x xs → P x
 all_in P [] x a m = absurd m
 all_in P (y ∷ xs) x a (inl e) = rw e a.0
 all_in P (y ∷ xs) x a (inr m) = all_in P xs x a.1 m

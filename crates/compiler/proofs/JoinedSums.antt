@@ -1,6 +1,6 @@
 -- Sums and lengths of lists that are joined from others. Assumes nothing.
 use Rattle.std.proofs.Common.{◌≡◌, ℕ, ◌+◌, ◌*◌, List, [], ◌∷◌, length, sum_by, sym, refl, ap, ◌∙◌, suc-mul, zero-mul, arith}
-use Rattle.std.specs.List.{flat_map, AllByRecursion as All}
+use Rattle.std.specs.List.{flat_map, AllByRecursion}
 use Rattle.std.proofs.ByRecursion.{All-append}
 use Rattle.std.proofs.lemmas.List.{length-append}
 use Rattle.std.proofs.lemmas.List.Sums.{sum_by-append, sum_by-cons}
@@ -23,6 +23,6 @@ module _ {X A : Type 0} (g : X → List A) where
       let rest = length_joined_even m even xs in
       omega (arith, length-append (g x) (flat_map g xs), even x, suc-mul (length xs) m)
 
-  pub all_joined : (P : A → Type 0) (xs : List X) → All (λ x. All P (g x)) xs → All P (flat_map g xs)
+  pub all_joined : (P : A → Type 0) (xs : List X) → AllByRecursion (λ x. AllByRecursion P (g x)) xs → AllByRecursion P (flat_map g xs)
   all_joined P [] h = tt
   all_joined P (x ∷ xs) h = All-append P (g x) (flat_map g xs) h.0 (all_joined P xs h.1)

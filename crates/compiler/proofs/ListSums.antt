@@ -1,12 +1,12 @@
 -- Sums over lists. Assumes nothing.
 use Rattle.std.proofs.Common.{◌≡◌, ℕ, zero, suc, ◌+◌, ◌*◌, List, [], ◌∷◌, map, sum_by, sym, refl, ap, ◌∙◌, mul-zero, mul-add, arith}
-use Rattle.std.specs.List.{range_with_len, AllByRecursion as All}
+use Rattle.std.specs.List.{range_with_len, AllByRecursion}
 use Rattle.std.proofs.lemmas.List.Sums.{sum_by-cons}
 use Rattle.owner_map.specs.Meaning.{sum_over}
 use Rattle.sections.proofs.Sums.{sum_like, sum_first}
 
 -- equal terms, equal sums
-pub sums_like : {X : Type 0} (f g : X → ℕ) (xs : List X) → All (λ x. f x ≡ g x) xs → sum_by f xs ≡ sum_by g xs
+pub sums_like : {X : Type 0} (f g : X → ℕ) (xs : List X) → AllByRecursion (λ x. f x ≡ g x) xs → sum_by f xs ≡ sum_by g xs
 sums_like f g [] same = refl
 sums_like f g (x ∷ xs) same = omega (arith, sum_by-cons f x xs, sum_by-cons g x xs, same.0, sums_like f g xs same.1)
 

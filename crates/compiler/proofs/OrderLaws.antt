@@ -1,6 +1,6 @@
 -- The orders of a nest cover it: the laws of the compiler's orders. Assumes nothing.
 use Rattle.std.proofs.Common.{◌≡◌, ℕ, Bool, true, false, not, ◌&&◌, eqb, List, [], ◌∷◌, ◌++◌, map, filter, sym, refl, ap, ◌∙◌, inl, inr}
-use Rattle.std.specs.List.{flat_map, AllByRecursion as All}
+use Rattle.std.specs.List.{flat_map, AllByRecursion}
 use Rattle.std.proofs.lemmas.Bool.{and_parts, eqb-true, ne_eqb}
 use Rattle.nest.specs.Terms.{Said, Sheet}
 use Rattle.nest.specs.Sound.{each, access_kept, statement_kept, nest_kept}
@@ -49,13 +49,13 @@ add_of s r m =
     (inr (in_append_left (Add r) (map Add s.reads) (Store ∷ []) (in_mapped Add r s.reads m)))
 
 -- of a nest that keeps its ranges: each statement, each task, each read
-each_parts : (arrays : List Array) (statements : List Said) → each (statement_kept arrays) statements ≡ true → All (Parts arrays) statements
+each_parts : (arrays : List Array) (statements : List Said) → each (statement_kept arrays) statements ≡ true → AllByRecursion (Parts arrays) statements
 each_parts arrays [] k = tt
 each_parts arrays (s ∷ statements) k =
     let p = and_parts (statement_kept arrays s) (each (statement_kept arrays) statements) k in
     (parts_of arrays s p.0, each_parts arrays statements p.1)
 
-pub all_parts : (n : Sheet) → nest_kept n.grid n.arrays n.sweeps n.statements ≡ true → All (Parts n.arrays) n.statements
+pub all_parts : (n : Sheet) → nest_kept n.grid n.arrays n.sweeps n.statements ≡ true → AllByRecursion (Parts n.arrays) n.statements
 all_parts n kept = each_parts n.arrays n.statements (nest_parts n.grid n.arrays n.sweeps n.statements kept).each_statement
 
 pub statement_parts_lem : (n : Sheet) → nest_kept n.grid n.arrays n.sweeps n.statements ≡ true → (s : Said) → In s n.statements → Parts n.arrays s

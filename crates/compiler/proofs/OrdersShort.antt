@@ -1,6 +1,6 @@
 -- A board has few orders, and their spans are short. Assumes nothing.
 use Rattle.std.proofs.Common.{◌≡◌, ℕ, ◌+◌, ◌<◌, ◌≤◌, Bool, true, leb, List, [], ◌∷◌, length, get_or, refl, arith}
-use Rattle.std.specs.List.{AllByRecursion as All}
+use Rattle.std.specs.List.{AllByRecursion}
 use Rattle.std.proofs.ByRecursion.{All-map, All-weaker, sum_by_le}
 use Rattle.std.proofs.lemmas.List.{length-map}
 use Rattle.std.proofs.lemmas.Bool.{and_parts, leb-true}
@@ -43,7 +43,7 @@ length_numbered a [] = refl
 length_numbered a (x ∷ xs) = omega (arith, length_numbered (a + 1) xs)
 
 -- of what passes a test: numbered, each has a number below the end, and passes
-numbered_pass : {X : Type 0} (f : X → Bool) (a : ℕ) (xs : List X) → each f xs ≡ true → All (λ kx. (kx.0 < a + length xs) × (f kx.1 ≡ true)) (numbered a xs)
+numbered_pass : {X : Type 0} (f : X → Bool) (a : ℕ) (xs : List X) → each f xs ≡ true → AllByRecursion (λ kx. (kx.0 < a + length xs) × (f kx.1 ≡ true)) (numbered a xs)
 numbered_pass f a [] k = tt
 numbered_pass f a (x ∷ xs) k =
     let q = and_parts (f x) (each f xs) k in
@@ -72,7 +72,7 @@ module _ (n : Sheet) (kept : nest_kept n.grid n.arrays n.sweeps n.statements ≡
 
   -- the orders of a statement
   module _ (m k : ℕ) (s : Said) (below : k < m) (of-nest : statement_kept n.arrays s ≡ true) where
-    orders_short : (mode : Mode) → All (Short m) (orders_by mode board k s)
+    orders_short : (mode : Mode) → AllByRecursion (Short m) (orders_by mode board k s)
     orders_short AllAtOnce =
         All-map (Short m) (task_order board k s) (tasks_of s)
         (All-weaker (Orderable board s) _ (λ t h. (below, span_short _ s.i h.0, span_short _ s.j h.1)) (tasks_of s) (tasks_orderable n rows columns p seated s of-nest))
@@ -84,7 +84,7 @@ module _ (n : Sheet) (kept : nest_kept n.grid n.arrays n.sweeps n.statements ≡
     orders_few AllAtOnce = omega (arith, length-map (tasks_of s) (task_order board k s), length_tasks s, few_reads n.arrays s of-nest)
     orders_few Seq = omega arith
 
-  numbered_kept : All (λ ks. (ks.0 < 0 + length n.statements) × (statement_kept n.arrays ks.1 ≡ true)) (numbered 0 n.statements)
+  numbered_kept : AllByRecursion (λ ks. (ks.0 < 0 + length n.statements) × (statement_kept n.arrays ks.1 ≡ true)) (numbered 0 n.statements)
   numbered_kept = numbered_pass (statement_kept n.arrays) 0 n.statements (nest_parts n.grid n.arrays n.sweeps n.statements kept).each_statement
 
   all_few : length (board_orders board n.statements) ≤ 80

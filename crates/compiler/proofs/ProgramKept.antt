@@ -1,6 +1,6 @@
 -- The orders of a nest that keeps its ranges are for statements, reads and arrays that are there. Assumes nothing.
 use Rattle.std.proofs.Common.{◌≡◌, ℕ, suc, ◌+◌, ◌<◌, ◌≤◌, Bool, true, cond, ◌&&◌, eqb, ltb, leb, List, [], ◌∷◌, ◌++◌, map, length, get_or, sym, refl, ap, ◌∙◌, subst, arith}
-use Rattle.std.specs.List.{range_with_len, AllByRecursion as All}
+use Rattle.std.specs.List.{range_with_len, AllByRecursion}
 use Rattle.std.proofs.lemmas.List.FromFn.{length-map-range_with_len}
 use Rattle.std.proofs.ByRecursion.{All-append, All-map, All-weaker}
 use Rattle.std.proofs.lemmas.Bool.{and_parts, and_from, cond_both, eq-eqb, le-leb, lt-ltb}
@@ -33,7 +33,7 @@ use Rattle.compiler.proofs.JoinedSums.{all_joined}
 use Rattle.compiler.proofs.TaskSpans.{moves_by}
 
 -- what holds of each of a list at its index holds of each with its number
-numbered_all : {X : Type 0} (P : ℕ → X → Type 0) (d : X) (a : ℕ) (xs : List X) → ((i : ℕ) → i < length xs → P (a + i) (get_or xs i d)) → All (λ kx. P kx.0 kx.1) (numbered a xs)
+numbered_all : {X : Type 0} (P : ℕ → X → Type 0) (d : X) (a : ℕ) (xs : List X) → ((i : ℕ) → i < length xs → P (a + i) (get_or xs i d)) → AllByRecursion (λ kx. P kx.0 kx.1) (numbered a xs)
 numbered_all P d a [] h = tt
 numbered_all P d a (x ∷ xs) h = (
   let e : a + 0 ≡ a = omega arith in subst (λ k. P k x) e (h 0 (omega arith)),
@@ -41,11 +41,11 @@ numbered_all P d a (x ∷ xs) h = (
 )
 
 -- a test that all pass
-pub all_each : {X : Type 0} (f : X → Bool) (xs : List X) → All (λ x. f x ≡ true) xs → each f xs ≡ true
+pub all_each : {X : Type 0} (f : X → Bool) (xs : List X) → AllByRecursion (λ x. f x ≡ true) xs → each f xs ≡ true
 all_each f [] h = refl
 all_each f (x ∷ xs) h = and_from (f x) (each f xs) h.0 (all_each f xs h.1)
 
-pub each_all : {X : Type 0} (f : X → Bool) (xs : List X) → each f xs ≡ true → All (λ x. f x ≡ true) xs
+pub each_all : {X : Type 0} (f : X → Bool) (xs : List X) → each f xs ≡ true → AllByRecursion (λ x. f x ≡ true) xs
 each_all f [] k = tt
 each_all f (x ∷ xs) k = let p = and_parts (f x) (each f xs) k in (p.0, each_all f xs p.1)
 
@@ -103,7 +103,7 @@ module _ (arrays : List Array) (s : Said) (kept : Parts arrays s) (b : Seat) whe
   j_kept Store k = put_columns
 
   -- all its tasks are kept
-  tasks_kept : All (λ t. task_kept arrays s t ≡ true) (tasks_of s)
+  tasks_kept : AllByRecursion (λ t. task_kept arrays s t ≡ true) (tasks_of s)
   tasks_kept =
       let reads = each_all (read_kept arrays s.i s.j) s.reads kept.reads in
       All-append (λ t. task_kept arrays s t ≡ true) (map Ship s.reads) (Base ∷ (map Add s.reads ++ (Store ∷ []))) (All-map (λ t. task_kept arrays s t ≡ true) Ship s.reads reads)
@@ -120,7 +120,7 @@ module _ (arrays : List Array) (s : Said) (kept : Parts arrays s) (b : Seat) whe
         let passed : test s ≡ true = and_from _ (span_kept arrays s.j o.j) (and_from _ (span_kept arrays s.i o.i) front i) j in
         subst (λ x. test x ≡ true) its passed
 
-    orders_kept : (m : Mode) → All (λ o. order_kept arrays statements o ≡ true) (orders_by m b k s)
+    orders_kept : (m : Mode) → AllByRecursion (λ o. order_kept arrays statements o ≡ true) (orders_by m b k s)
     orders_kept AllAtOnce =
         All-map (λ o. order_kept arrays statements o ≡ true) (task_order b k s) (tasks_of s)
         (All-weaker (λ t. task_kept arrays s t ≡ true) _ (λ t h. order_kept_lem (task_order b k s t) refl h (i_kept t h) (j_kept t h)) (tasks_of s) tasks_kept)
@@ -132,7 +132,7 @@ module _ (n : Sheet) (deals : Deals) (kept : nest_kept n.grid n.arrays n.sweeps 
   abbrev Numbered : ℕ → Said → Type 0
   Numbered k s = (k < length n.statements) × (statement_at n.statements k ≡ s) × (statement_kept n.arrays s ≡ true)
 
-  statements_numbered : All (λ ks. Numbered ks.0 ks.1) (numbered 0 n.statements)
+  statements_numbered : AllByRecursion (λ ks. Numbered ks.0 ks.1) (numbered 0 n.statements)
   statements_numbered =
       numbered_all Numbered no_statement 0 n.statements
       (λ i l. let e : 0 + i ≡ i = omega arith in (

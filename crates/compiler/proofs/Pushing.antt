@@ -1,6 +1,6 @@
 -- Lists that grow by one at the end. Assumes nothing.
 use Rattle.std.proofs.Common.{◌≡◌, ℕ, ◌+◌, ◌<◌, ◌≤◌, List, [], ◌∷◌, ◌++◌, map, length, get_or, take, sym, ap, ◌∙◌, subst, append_assoc}
-use Rattle.std.specs.List.{AllByRecursion as All}
+use Rattle.std.specs.List.{AllByRecursion}
 use Rattle.std.proofs.ByRecursion.{All-push}
 use Rattle.std.proofs.lemmas.List.{map_push, map_more, take_all}
 
@@ -22,5 +22,5 @@ module _ {X : Type 0} (vs more : List X) (x : X) (pushed : more ≡ vs ++ x ∷ 
   pub map_pushed : {Y : Type 0} (f : X → Y) (us : List Y) (y : Y) → map f vs ≡ us → f x ≡ y → map f more ≡ us ++ y ∷ []
   map_pushed f us y e is = ap (map f) pushed ∙ map_push f vs x ∙ (λ t. e t ++ is t ∷ [])
 
-  pub all_pushed : (P : X → Type 0) → All P vs → P x → All P more
-  all_pushed P h k = subst (All P) (sym pushed) (All-push P vs x h k)
+  pub all_pushed : (P : X → Type 0) → AllByRecursion P vs → P x → AllByRecursion P more
+  all_pushed P h k = subst (AllByRecursion P) (sym pushed) (All-push P vs x h k)

@@ -1,7 +1,7 @@
 -- How many steps all boards take together: it does not depend on the deals. Assumes nothing.
 use Rattle.std.proofs.Common.{◌≡◌, ℕ, ◌+◌, ◌-◌, ◌*◌, ◌/◌, ◌%◌, ◌<◌, ◌≤◌, Bool, true, false, cond, ◌&&◌, List, [], ◌∷◌, map, length, sum_by, sym, refl, ap, ◌∙◌, ap₂, ⊎_elim, mul_comm, one-mul, mul-one, arith}
 use native.Mathlib.Nat.{mul-mul-mul_comm}
-use Rattle.std.specs.List.{range_with_len, AllByRecursion as All}
+use Rattle.std.specs.List.{range_with_len, AllByRecursion}
 use Rattle.std.proofs.lemmas.List.{get_or_past}
 use Rattle.std.proofs.lemmas.List.Sums.{sum_by-cons}
 use Rattle.std.proofs.lemmas.Bool.{cond-true, cond-false, cases_lt, cases_Bool, and_cases, and_parts, both_ways}
@@ -169,11 +169,11 @@ abbrev pub steps_total : Sheet → ℕ
 steps_total n = n.sweeps * sum_by (statement_total n.grid) (numbered 0 n.statements)
 
 -- what holds of each of a list holds of each with its number
-numbered_all : {X : Type 0} (P : X → Type 0) (k : ℕ) (xs : List X) → All P xs → All (λ kx. P kx.1) (numbered k xs)
+numbered_all : {X : Type 0} (P : X → Type 0) (k : ℕ) (xs : List X) → AllByRecursion P xs → AllByRecursion (λ kx. P kx.1) (numbered k xs)
 numbered_all P k [] a = tt
 numbered_all P k (x ∷ xs) a = (a.0, numbered_all P (k + 1) xs a.1)
 
-all_like : {X : Type 0} (P Q : X → Type 0) (xs : List X) → ((x : X) → P x → Q x) → All P xs → All Q xs
+all_like : {X : Type 0} (P Q : X → Type 0) (xs : List X) → ((x : X) → P x → Q x) → AllByRecursion P xs → AllByRecursion Q xs
 all_like P Q [] f a = tt
 all_like P Q (x ∷ xs) f a = (f x a.0, all_like P Q xs f a.1)
 
@@ -259,7 +259,7 @@ module _ (g : Grid) (arrays : List Array) (deals : Deals) (fit : Fits g arrays d
         (λ p. omega (arith, sum_by-cons (order_steps (seat g.rows deals p) s) (walk_order (seat g.rows deals p) n s) [], ap (λ m. m * length (tasks_of s)) (length_cells (seat g.rows deals p) s (walk_order (seat g.rows deals p) n s))))
 
 -- the steps of all boards are what the nest alone says
-pub steps_total_lem : (n : Sheet) (deals : Deals) → Fits n.grid n.arrays deals → AllSound deals → All (Parts n.arrays) n.statements → steps_of n deals ≡ steps_total n
+pub steps_total_lem : (n : Sheet) (deals : Deals) → Fits n.grid n.arrays deals → AllSound deals → AllByRecursion (Parts n.arrays) n.statements → steps_of n deals ≡ steps_total n
 steps_total_lem n deals fit sound kept =
     let g : Grid = n.grid in
     let all : List (ℕ × Said) = numbered 0 n.statements in

@@ -1,7 +1,7 @@
 -- The spans of a task: what owns them reaches only positions that are there, and a board that has a part in a task owns
 -- both loop values. Assumes nothing.
 use Rattle.std.proofs.Common.{◌≡◌, ℕ, ◌+◌, ◌-◌, ◌*◌, ◌/◌, ◌%◌, ◌<◌, ◌≤◌, true, cond, not, ◌&&◌, leb, List, [], ◌∷◌, ◌++◌, map, length, get_or, sym, refl, ap, ◌∙◌, ⊎_elim, mul_comm, arith}
-use Rattle.std.specs.List.{AllByRecursion as All}
+use Rattle.std.specs.List.{AllByRecursion}
 use Rattle.std.proofs.lemmas.Nat.{div-mul-add, mod-mul-add, mul-add-lt}
 use Rattle.std.proofs.ByRecursion.{All-append, All-map}
 use Rattle.std.proofs.lemmas.List.{get_or_past}
@@ -71,21 +71,21 @@ TaskKept arrays s (Add r) = Unit {0}
 TaskKept arrays s Store = Unit {0}
 
 -- the reads of a statement that keeps its ranges
-pub reads_kept : (arrays : List Array) (i j : Range) (reads : List ReadTerm) → each (read_kept arrays i j) reads ≡ true → All (λ r. access_kept 0 arrays i j r.source ≡ true) reads
+pub reads_kept : (arrays : List Array) (i j : Range) (reads : List ReadTerm) → each (read_kept arrays i j) reads ≡ true → AllByRecursion (λ r. access_kept 0 arrays i j r.source ≡ true) reads
 reads_kept arrays i j [] k = tt
 reads_kept arrays i j (r ∷ reads) k =
     let p = and_parts (read_kept arrays i j r) (each (read_kept arrays i j) reads) k in
     ((and_parts (leb r.coefficient 7) (access_kept 0 arrays i j r.source) p.0).1, reads_kept arrays i j reads p.1)
 
-all_true : {X : Type 0} (P : X → Type 0) (xs : List X) → ((x : X) → P x) → All P xs
+all_true : {X : Type 0} (P : X → Type 0) (xs : List X) → ((x : X) → P x) → AllByRecursion P xs
 all_true P [] f = tt
 all_true P (x ∷ xs) f = (f x, all_true P xs f)
 
 -- all its tasks are kept
-pub tasks_kept : (arrays : List Array) (s : Said) → Parts arrays s → All (TaskKept arrays s) (tasks_of s)
+pub tasks_kept : (arrays : List Array) (s : Said) → Parts arrays s → AllByRecursion (TaskKept arrays s) (tasks_of s)
 tasks_kept arrays s kept =
-    let adds : All (TaskKept arrays s) (map Add s.reads) = All-map (TaskKept arrays s) Add s.reads (all_true (λ r. TaskKept arrays s (Add r)) s.reads (λ _. tt)) in
-    let ships : All (TaskKept arrays s) (map Ship s.reads) = All-map (TaskKept arrays s) Ship s.reads (reads_kept arrays s.i s.j s.reads kept.reads) in
+    let adds : AllByRecursion (TaskKept arrays s) (map Add s.reads) = All-map (TaskKept arrays s) Add s.reads (all_true (λ r. TaskKept arrays s (Add r)) s.reads (λ _. tt)) in
+    let ships : AllByRecursion (TaskKept arrays s) (map Ship s.reads) = All-map (TaskKept arrays s) Ship s.reads (reads_kept arrays s.i s.j s.reads kept.reads) in
     All-append (TaskKept arrays s) (map Ship s.reads) (Base ∷ (map Add s.reads ++ (Store ∷ []))) ships
     (tt, All-append (TaskKept arrays s) (map Add s.reads) (Store ∷ []) adds (tt, tt))
 

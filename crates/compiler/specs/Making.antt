@@ -1,7 +1,7 @@
 -- When a board's orders can be made: every number stays small, and every question to a map has an answer. Only the private
 -- code goes by these. Assumes nothing.
 use Rattle.std.specs.Prelude.{◌≡◌, ℕ, ◌+◌, ◌<◌, ◌≤◌, true, List, length}
-use Rattle.std.specs.List.{AllByRecursion as All}
+use Rattle.std.specs.List.{AllByRecursion}
 use Rattle.nest.specs.Sound.{statement_kept}
 use Rattle.nest.specs.Terms.{far, position, Said, Sheet}
 use Rattle.nest.specs.declared.terms.Range.{Range}
@@ -59,7 +59,7 @@ Orderable b s t = Spannable b (i_kind s t) s.i × Spannable b (j_kind s t) s.j
 
 -- so can those of every task of a list
 abbrev pub AllOrderable : Seat → Said → List Task → Type 0
-AllOrderable b s ts = All (Orderable b s) ts
+AllOrderable b s ts = AllByRecursion (Orderable b s) ts
 
 -- the statement keeps the ranges of the sheet
 abbrev pub KeptIn : Sheet → Said → Type 0

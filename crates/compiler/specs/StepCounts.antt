@@ -1,6 +1,6 @@
 -- The steps of orders, from the ends of their spans. Only the private code goes by these. Assumes nothing.
 use Rattle.std.specs.Prelude.{ℕ, ◌+◌, ◌-◌, ◌*◌, ◌<◌, ◌≤◌, List, map, length, sum_by, slice_index}
-use Rattle.std.specs.List.{AllByRecursion as All}
+use Rattle.std.specs.List.{AllByRecursion}
 use Rattle.nest.specs.Terms.{Said}
 use Rattle.compiler.specs.declared.order.Order.{Order}
 use Rattle.compiler.specs.declared.order.Work.{Work}
@@ -37,8 +37,8 @@ Short statements o = (o.statement < statements) × (o.i.end ≤ 33) × (o.j.end 
 
 -- statements with few reads each
 abbrev pub FewReads : List Said → Type 0
-FewReads ss = All (λ s. length s.reads ≤ 4) ss
+FewReads ss = AllByRecursion (λ s. length s.reads ≤ 4) ss
 
 -- few orders, all of them short
 abbrev pub FewOrders : List Said → List Order → Type 0
-FewOrders ss os = (length os ≤ 80) × All (Short (length ss)) os
+FewOrders ss os = (length os ≤ 80) × AllByRecursion (Short (length ss)) os

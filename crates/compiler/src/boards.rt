@@ -1,6 +1,6 @@
 // The program of each board.
 ghost use Rattle.std.specs.Prelude.{◌≡◌, ◌≤◌, map, IfOk};
-ghost use Rattle.std.specs.List.{range_with_len, AllByRecursion as All};
+ghost use Rattle.std.specs.List.{range_with_len, AllByRecursion};
 ghost use Rattle.nest.specs.Nests.{shown};
 ghost use Rattle.sections.specs.Sections.{Fits, dealt};
 ghost use Rattle.compiler.specs.Compiled.{board_of, one_board};
@@ -35,7 +35,7 @@ pub(crate) fn board_programs<'a, R: OwnerMap, C: OwnerMap>(
 ) -> Result<Vec<BoardProgram>, AllocError>
     requires { Fits (shown nest.now).grid (shown nest.now).arrays (dealt (map R.OwnerMap.meaning row_maps.now) (map C.OwnerMap.meaning column_maps.now)) }
     ensures whole { IfOk result (λ v. map one_board v.items ≡ map (board_of (shown nest.now) (dealt (map R.OwnerMap.meaning row_maps.now) (map C.OwnerMap.meaning column_maps.now))) (range_with_len 0 (boards_of (shown nest.now).grid))) }
-    ensures small { IfOk result (λ v. All (λ b. b.steps ≤ 871200000) v.items) }
+    ensures small { IfOk result (λ v. AllByRecursion (λ b. b.steps ≤ 871200000) v.items) }
 {
     let grid = nest.grid();
     let mut programs = Vec::new(heap);

@@ -1,6 +1,6 @@
 // The program of a nest.
 ghost use Rattle.std.specs.Prelude.{◌≡◌, ◌≤◌, map, length, IfOk, sum_by, OnOk};
-ghost use Rattle.std.specs.List.{AllByRecursion as All};
+ghost use Rattle.std.specs.List.{AllByRecursion};
 ghost use Rattle.nest.specs.Nests.{shown};
 ghost use Rattle.sections.specs.Sections.{Fits, dealt};
 ghost use Rattle.compiler.specs.Answer.{Answered};
@@ -21,7 +21,7 @@ use std::alloc::{AllocError, Global};
 
 /// The steps of all boards.
 fn all_steps(boards: &[BoardProgram]) -> usize
-    requires { (length boards.now ≤ 8) × (All (λ b. b.steps ≤ 871200000) boards.now) }
+    requires { (length boards.now ≤ 8) × (AllByRecursion (λ b. b.steps ≤ 871200000) boards.now) }
     ensures { result ≡ sum_by (λ b. b.steps) boards.now }
 {
     let mut steps = 0;

@@ -1,6 +1,6 @@
 -- No subscript of an accepted nest leaves its array. Assumes nothing.
 use Rattle.std.proofs.Common.{◌≡◌, ℕ, ◌*◌, ◌≤◌, Bool, true, ltb, leb, List, [], ◌∷◌, length, get_or, mul-le-mul_left, arith}
-use Rattle.std.specs.List.{AllByRecursion as All}
+use Rattle.std.specs.List.{AllByRecursion}
 use Rattle.std.proofs.lemmas.Bool.{and_parts, leb-true, ltb-true}
 use Rattle.nest.specs.declared.terms.Array.{Array}
 use Rattle.nest.specs.declared.terms.Range.{Range}
@@ -47,7 +47,7 @@ module _ (arrays : List Array) (ri rj : Range) (i j : ℕ) (hi : RunsThrough ri 
       let d = and_parts (ltb a.array (length arrays)) _ b.0 in
       record { there = ltb-true a.array (length arrays) d.0; row = inside_within rows a.row q.1; column = inside_within columns a.column p.1 }
 
-each_all : {X : Type 0} (f : X → Bool) (P : X → Type 0) → ((x : X) → f x ≡ true → P x) → (xs : List X) → each f xs ≡ true → All P xs
+each_all : {X : Type 0} (f : X → Bool) (P : X → Type 0) → ((x : X) → f x ≡ true → P x) → (xs : List X) → each f xs ≡ true → AllByRecursion P xs
 each_all f P h [] e = tt
 each_all f P h (x ∷ xs) e = let a = and_parts (f x) (each f xs) e in (h x a.0, each_all f P h xs a.1)
 

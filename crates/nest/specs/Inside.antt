@@ -1,6 +1,6 @@
 -- What the ranges of a nest mean: in each iteration, every element that a statement names lies inside its array. Assumes nothing.
 use Rattle.std.specs.Prelude.{ℕ, ◌<◌, ◌≤◌, List, length, slice_index_or}
-use Rattle.std.specs.List.{AllByRecursion as All}
+use Rattle.std.specs.List.{AllByRecursion}
 use Rattle.nest.specs.declared.terms.Array.{Array}
 use Rattle.nest.specs.declared.terms.Range.{Range}
 use Rattle.nest.specs.declared.terms.Variable.{Variable}
@@ -30,8 +30,8 @@ pub record Reaches (arrays : List Array) (i j : ℕ) (a : Access) : Type 0 where
 -- in every iteration of a statement, its target and each of its reads
 pub record StatementInside (arrays : List Array) (s : Said) : Type 0 where
   pub target : (i j : ℕ) → RunsThrough s.i i → RunsThrough s.j j → Reaches arrays i j s.put
-  pub reads : All (λ r. (i j : ℕ) → RunsThrough s.i i → RunsThrough s.j j → Reaches arrays i j r.source) s.reads
+  pub reads : AllByRecursion (λ r. (i j : ℕ) → RunsThrough s.i i → RunsThrough s.j j → Reaches arrays i j r.source) s.reads
 
 -- every statement of the nest
 abbrev pub StaysInside : Sheet → Type 0
-StaysInside nest = All (StatementInside nest.arrays) nest.statements
+StaysInside nest = AllByRecursion (StatementInside nest.arrays) nest.statements

@@ -1,6 +1,6 @@
 -- How many steps the boards have to run in a nest, and how many letters they put and take. Assumes nothing.
 use Rattle.std.proofs.Common.{◌≡◌, ℕ, zero, suc, ◌+◌, ◌*◌, ◌<◌, ◌≤◌, Bool, true, false, cond, eqb, List, [], ◌∷◌, map, length, sum_by, filter, Option, sym, refl, ap, ◌∙◌, ⊎_elim, suc-mul, zero-mul, arith}
-use Rattle.std.specs.List.{range_with_len, flat_map, AllByRecursion as All}
+use Rattle.std.specs.List.{range_with_len, flat_map, AllByRecursion}
 use Rattle.std.proofs.lemmas.List.{length-append, length-map}
 use Rattle.std.proofs.lemmas.List.Sums.{sum_by-cons, sum_by-append}
 use Rattle.std.proofs.lemmas.Bool.{cases_Bool, cond-true, cond-false, eqb-true, eqb-false, ne_eqb}
@@ -86,13 +86,13 @@ one_of o v a (suc n) h l =
     after ne = omega (arith, ne)
 
 -- the shares of all boards together are all events
-pub shares_sum : (f : Deed → ℕ) (boards : ℕ) (events : List Event) → All (λ ev. ev.0 < boards) events
+pub shares_sum : (f : Deed → ℕ) (boards : ℕ) (events : List Event) → AllByRecursion (λ ev. ev.0 < boards) events
     → sum_by (λ p. sum_by f (share_of p events)) (range_with_len 0 boards) ≡ sum_by (λ ev. f ev.1) events
 shares_sum f boards events below =
     sums_alike (λ p. sum_by f (share_of p events)) (λ p. sum_by (λ ev. cond (eqb ev.0 p) (f ev.1) 0) events) (range_with_len 0 boards) (λ p. share_sum f p events)
     ∙ sums_swap (λ p ev. cond (eqb ev.0 p) (f ev.1) 0) (range_with_len 0 boards) events
     ∙ sums_like (λ ev. sum_by (λ p. cond (eqb ev.0 p) (f ev.1) 0) (range_with_len 0 boards)) (λ ev. f ev.1) events (each events below)
   where
-    each : (evs : List Event) → All (λ ev. ev.0 < boards) evs → All (λ ev. sum_by (λ p. cond (eqb ev.0 p) (f ev.1) 0) (range_with_len 0 boards) ≡ f ev.1) evs
+    each : (evs : List Event) → AllByRecursion (λ ev. ev.0 < boards) evs → AllByRecursion (λ ev. sum_by (λ p. cond (eqb ev.0 p) (f ev.1) 0) (range_with_len 0 boards) ≡ f ev.1) evs
     each [] h = tt
     each (ev ∷ evs) h = let low : ev.0 < boards = h.0 in (one_of ev.0 (f ev.1) 0 boards (omega arith) (omega arith), each evs h.1)

@@ -1,6 +1,6 @@
 -- Every event of a nest is by a board of its grid, and touches only elements that are there and belong to that board. Assumes nothing.
 use Rattle.std.proofs.Common.{◌≡◌, ℕ, ◌<◌, true, cond, List, [], ◌∷◌, ◌++◌, map, refl, inl, inr}
-use Rattle.std.specs.List.{flat_map, AllByRecursion as All}
+use Rattle.std.specs.List.{flat_map, AllByRecursion}
 use Rattle.std.proofs.ByRecursion.{All-append, All-map}
 use Rattle.std.proofs.lemmas.Bool.{cond_both, eqb-true}
 use Rattle.nest.specs.Terms.{Said, Sheet}
@@ -30,11 +30,11 @@ use Rattle.schedule.specs.Start.{There}
 use Rattle.schedule.proofs.EventLists.{all_joined, all_again}
 
 -- what holds of the step holds of its event, if there is one
-of_event : (P : Event → Type 0) (p : ℕ) (d : Deed) → P (p, d) → All P (event_for p d)
-of_event P p d so = cond_both (works d) ((p, d) ∷ []) [] (All P) (λ _. (so, tt)) (λ _. tt)
+of_event : (P : Event → Type 0) (p : ℕ) (d : Deed) → P (p, d) → AllByRecursion P (event_for p d)
+of_event P p d so = cond_both (works d) ((p, d) ∷ []) [] (AllByRecursion P) (λ _. (so, tt)) (λ _. tt)
 
 -- one of each of a list
-all_each : {X : Type 0} (P : X → Type 0) (xs : List X) → ((x : X) → In x xs → P x) → All P xs
+all_each : {X : Type 0} (P : X → Type 0) (xs : List X) → ((x : X) → In x xs → P x) → AllByRecursion P xs
 all_each P [] each = tt
 all_each P (x ∷ xs) each = (each x (inl refl), all_each P xs (λ y m. each y (inr m)))
 
@@ -45,13 +45,13 @@ ReadsOf s Base = Unit {0}
 ReadsOf s (Add r) = In r s.reads
 ReadsOf s Store = Unit {0}
 
-tasks_read : (s : Said) → All (ReadsOf s) (tasks_of s)
+tasks_read : (s : Said) → AllByRecursion (ReadsOf s) (tasks_of s)
 tasks_read s =
     All-append (ReadsOf s) (map Ship s.reads) (Base ∷ (map Add s.reads ++ (Store ∷ [])))
     (All-map (ReadsOf s) Ship s.reads (all_each (λ r. In r s.reads) s.reads (λ r m. m)))
     (tt, All-append (ReadsOf s) (map Add s.reads) (Store ∷ []) (All-map (ReadsOf s) Add s.reads (all_each (λ r. In r s.reads) s.reads (λ r m. m))) (tt, tt))
 
-passes_read : (s : Said) → All (ReadsOf s) (pass_tasks s)
+passes_read : (s : Said) → AllByRecursion (ReadsOf s) (pass_tasks s)
 passes_read s =
     (tt, All-append (ReadsOf s) (flat_map (λ r. Ship r ∷ (Add r ∷ [])) s.reads) (Store ∷ []) (all_joined (ReadsOf s) (λ r. Ship r ∷ (Add r ∷ [])) s.reads (λ r m. (m, (m, tt)))) (tt, tt))
 
@@ -102,12 +102,12 @@ module _ (n : Sheet) (deals : Deals) (kept : nest_kept n.grid n.arrays n.sweeps 
     doer_there (Add r) mr = (owners_are_boards n deals kept fit sound s e m me).0
     doer_there Store mr = (owners_are_boards n deals kept fit sound s e m me).0
 
-    event_home : (t : Task) → ReadsOf s t → All (Home n deals) (event_in n.grid.rows deals s t e)
+    event_home : (t : Task) → ReadsOf s t → AllByRecursion (Home n deals) (event_in n.grid.rows deals s t e)
     event_home t mr =
         let o : ℕ = doer n.grid.rows deals s t e in
         of_event (Home n deals) o (deed_of (seat n.grid.rows deals o) s t e) (doer_there t mr, deed_home o t mr)
 
-  statement_home : (w : Mode) (s : Said) → In s n.statements → All (Home n deals) (events_by w n.grid.rows deals s)
+  statement_home : (w : Mode) (s : Said) → In s n.statements → AllByRecursion (Home n deals) (events_by w n.grid.rows deals s)
   statement_home Together s m =
       all_joined (Home n deals) (λ t. flat_map (event_in n.grid.rows deals s t) (iterations s.i s.j)) (tasks_of s)
       (λ t mt. all_joined (Home n deals) (event_in n.grid.rows deals s t) (iterations s.i s.j) (λ e me. event_home s m e me t (all_in (ReadsOf s) (tasks_of s) t (tasks_read s) mt)))
@@ -116,7 +116,7 @@ module _ (n : Sheet) (deals : Deals) (kept : nest_kept n.grid n.arrays n.sweeps 
       (λ e me. all_joined (Home n deals) (λ t. event_in n.grid.rows deals s t e) (pass_tasks s) (λ t mt. event_home s m e me t (all_in (ReadsOf s) (pass_tasks s) t (passes_read s) mt)))
 
   -- of the whole nest
-  pub nest_home : All (Home n deals) (nest_events n deals)
+  pub nest_home : AllByRecursion (Home n deals) (nest_events n deals)
   nest_home =
       all_again (Home n deals) n.sweeps (sweep_events n.grid.rows deals n.statements)
       (all_joined (Home n deals) (statement_events n.grid.rows deals) n.statements (λ s m. statement_home s.mode s m))

@@ -1,6 +1,6 @@
 -- Lists joined and repeated: what is filtered, counted and held of all of them. Assumes nothing.
 use Rattle.std.proofs.Common.{◌≡◌, ℕ, zero, suc, ◌*◌, List, [], ◌∷◌, ◌++◌, length, sum_by, sym, refl, ap, ◌∙◌, ap₂, inl, inr, suc-mul, zero-mul, arith}
-use Rattle.std.specs.List.{flat_map, AllByRecursion as All}
+use Rattle.std.specs.List.{flat_map, AllByRecursion}
 use Rattle.std.proofs.ByRecursion.{All-append}
 use Rattle.std.proofs.lemmas.List.{length-append}
 use Rattle.std.proofs.lemmas.List.Sums.{sum_by-cons, sum_by-append}
@@ -46,10 +46,10 @@ length_again zero xs = sym (zero-mul (length xs))
 length_again (suc n) xs = omega (arith, length-append (again n xs) xs, length_again n xs, suc-mul n (length xs))
 
 -- what holds of all of them
-pub all_joined : {X A : Type 0} (P : A → Type 0) (f : X → List A) (xs : List X) → ((x : X) → In x xs → All P (f x)) → All P (flat_map f xs)
+pub all_joined : {X A : Type 0} (P : A → Type 0) (f : X → List A) (xs : List X) → ((x : X) → In x xs → AllByRecursion P (f x)) → AllByRecursion P (flat_map f xs)
 all_joined P f [] each = tt
 all_joined P f (x ∷ xs) each = All-append P (f x) (flat_map f xs) (each x (inl refl)) (all_joined P f xs (λ y m. each y (inr m)))
 
-pub all_again : {A : Type 0} (P : A → Type 0) (n : ℕ) (xs : List A) → All P xs → All P (again n xs)
+pub all_again : {A : Type 0} (P : A → Type 0) (n : ℕ) (xs : List A) → AllByRecursion P xs → AllByRecursion P (again n xs)
 all_again P zero xs all = tt
 all_again P (suc n) xs all = All-append P (again n xs) xs (all_again P n xs all) all

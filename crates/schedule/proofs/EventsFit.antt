@@ -1,6 +1,6 @@
 -- The events of every nest fit the steps of its boards. Assumes nothing.
 use Rattle.std.proofs.Common.{◌≡◌, ℕ, ◌<◌, true, List, [], ◌∷◌, sum_by, sym, refl, ap, ◌∙◌}
-use Rattle.std.specs.List.{range_with_len, AllByRecursion as All}
+use Rattle.std.specs.List.{range_with_len, AllByRecursion}
 use Rattle.nest.specs.Terms.{Said, Sheet}
 use Rattle.nest.specs.Sound.{nest_kept}
 use Rattle.sections.specs.Sections.{Deals, Fits}
@@ -18,7 +18,7 @@ use Rattle.schedule.proofs.EventCounts.{steps_counted, working_sum, shares_sum}
 use Rattle.schedule.proofs.LetterCounts.{ByLetters, puts_by_letters, takes_by_letters, nest_letters}
 
 module _ (n : Sheet) (deals : Deals) (kept : nest_kept n.grid n.arrays n.sweeps n.statements ≡ true) (fit : Fits n.grid n.arrays deals) (sound : AllSound deals) where
-  by_boards : (events : List Event) → All (Home n deals) events → All (λ ev. ev.0 < boards_of n.grid) events
+  by_boards : (events : List Event) → AllByRecursion (Home n deals) events → AllByRecursion (λ ev. ev.0 < boards_of n.grid) events
   by_boards [] h = tt
   by_boards (ev ∷ events) h = (h.0.0, by_boards events h.1)
 

@@ -1,6 +1,6 @@
 -- The fields of a line lie on it. Assumes nothing.
 use Rattle.std.proofs.Common.{◌≡◌, ℕ, ◌+◌, ◌<◌, ◌≤◌, List, [], ◌∷◌, length, sym, refl, ap, ◌∙◌, subst, arith, length-drop}
-use Rattle.std.specs.List.{AllByRecursion as All}
+use Rattle.std.specs.List.{AllByRecursion}
 use Rattle.std.proofs.ByRecursion.{All-weaker}
 use Rattle.tokens.specs.declared.extent.FieldKind.{FieldKind}
 use Rattle.tokens.specs.declared.extent.Extent.{Extent}
@@ -49,8 +49,8 @@ end_shorter lead t ps u e =
     let left : length y.rest ≡ length u.rest = ap length rest ∙ ap (λ z. length z.rest) same in
     (cc, omega (arith, b, c, left))
 
-fields_sit : (kinds : List FieldKind) (lead : ℕ) (t : Text) (ps : List Piece) (u : Text) → fields_behind lead kinds t ≡ got ps u → (length ps ≡ length kinds) × All (Sits t u) ps × (length u.rest < length t.rest)
-fields_sit [] lead t ps u e = let a = end_shorter lead t ps u e in subst (λ l. (length l ≡ length {A = FieldKind} []) × All (Sits t u) l × (length u.rest < length t.rest)) a.0 (refl, tt, a.1)
+fields_sit : (kinds : List FieldKind) (lead : ℕ) (t : Text) (ps : List Piece) (u : Text) → fields_behind lead kinds t ≡ got ps u → (length ps ≡ length kinds) × AllByRecursion (Sits t u) ps × (length u.rest < length t.rest)
+fields_sit [] lead t ps u e = let a = end_shorter lead t ps u e in subst (λ l. (length l ≡ length {A = FieldKind} []) × AllByRecursion (Sits t u) l × (length u.rest < length t.rest)) a.0 (refl, tt, a.1)
 fields_sit (k ∷ kinds) lead t ps u e =
     let (p, x, is, on) = then_inv (field lead k t) _ ps u e in
     let (rest, y, was, to) = then_inv (fields_behind 44 kinds x) _ ps u on in
@@ -58,10 +58,10 @@ fields_sit (k ∷ kinds) lead t ps u e =
     let list : p ∷ rest ≡ ps = cc in
     let a = field_further lead k t p x is in
     let b = fields_sit kinds 44 x rest u (was ∙ ap (got rest) text) in
-    subst (λ l. (length l ≡ length (k ∷ kinds)) × All (Sits t u) l × (length u.rest < length t.rest)) list
+    subst (λ l. (length l ≡ length (k ∷ kinds)) × AllByRecursion (Sits t u) l × (length u.rest < length t.rest)) list
     (omega (arith, b.0), ((a.1, a.2, omega (arith, a, b.2)), All-weaker (Sits x u) (Sits t u) (λ q s. (s.0 ∙ a.0.0, omega (arith, a, s), omega (arith, a, s))) rest b.1), omega (arith, a, b.2))
 
-pub line_sits : (form : Form) (t : Text) (fields : List Piece) (u : Text) → fields_of form t ≡ got fields u → (length fields ≡ length form.kinds) × All (Sits t u) fields
+pub line_sits : (form : Form) (t : Text) (fields : List Piece) (u : Text) → fields_of form t ≡ got fields u → (length fields ≡ length form.kinds) × AllByRecursion (Sits t u) fields
 line_sits form t fields u e =
     let (q, x, is, on) = then_inv (word form.key t) _ fields u e in
     let a = word_further form.key t q x is in

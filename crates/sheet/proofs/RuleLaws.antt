@@ -1,6 +1,6 @@
 -- What the fields of a line are refused for, and where: a number from 2 to 6, at one of the fields. Assumes nothing.
 use Rattle.std.proofs.Common.{◌≡◌, ℕ, ◌-◌, ◌*◌, ◌<◌, ◌≤◌, Bool, cond, leb, List, length, get_or, arith}
-use Rattle.std.specs.List.{AllByRecursion as All}
+use Rattle.std.specs.List.{AllByRecursion}
 use Rattle.std.proofs.ByRecursion.{All-get_or}
 use Rattle.std.proofs.lemmas.Bool.{cond_both}
 use Rattle.tokens.specs.Texts.{Piece}
@@ -20,7 +20,7 @@ Faulted At (wrong number line byte) = (2 ≤ number) × (number ≤ 6) × At lin
 
 -- so many fields, each at such a place
 abbrev pub Fielded : (ℕ → ℕ → Type 0) → ℕ → List Piece → Type 0
-Fielded At n fields = (length fields ≡ n) × All (λ p. At p.line p.byte) fields
+Fielded At n fields = (length fields ≡ n) × AllByRecursion (λ p. At p.line p.byte) fields
 
 -- a rule for so many fields, which refuses at the places of fields only
 abbrev pub RuleLaw : {V : Type 0} → ℕ → (List Piece → Verdict V) → Type 1

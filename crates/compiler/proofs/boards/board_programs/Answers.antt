@@ -1,5 +1,5 @@
 use Rattle.std.proofs.Common.{◌≡◌, ◌≤◌, map, vec_items, sym, ap, ◌∙◌, subst, arith}
-use Rattle.std.specs.List.{range_with_len, AllByRecursion as All}
+use Rattle.std.specs.List.{range_with_len, AllByRecursion}
 use Rattle.std.proofs.lemmas.List.FromFn.{map-range_with_len_more}
 use Rattle.nest.specs.Nests.{shown}
 use Rattle.sections.specs.Sections.{dealt}
@@ -14,7 +14,7 @@ abbrev Small : BoardProgram → Type 0
 Small b = b.steps ≤ 871200000
 
 pub loop-board-init : goal.loop-board-init
-loop-board-init g c = (ap (map one_board) c.new-programs.ensures.items, subst (All Small) (sym c.new-programs.ensures.items) tt)
+loop-board-init g c = (ap (map one_board) c.new-programs.ensures.items, subst (AllByRecursion Small) (sym c.new-programs.ensures.items) tt)
 
 pub program-requires : goal.program-requires
 program-requires g c = (c.requires, omega (arith, c.loop-board-test.true, ap boards_of c.grid-grid.ensures))

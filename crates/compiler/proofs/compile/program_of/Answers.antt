@@ -1,5 +1,5 @@
 use Rattle.std.proofs.Common.{◌≤◌, map, length, vec_items, sum_by, sym, ap, ◌∙◌, subst, arith}
-use Rattle.std.specs.List.{AllByRecursion as All}
+use Rattle.std.specs.List.{AllByRecursion}
 use Rattle.nest.specs.Nests.{shown}
 use Rattle.nest.specs.Terms.{Sheet}
 use Rattle.sections.specs.Sections.{Deals, dealt}
@@ -15,7 +15,7 @@ all_steps-steps-requires g c =
     let boards = c.in_ok-boards.ensures in
     let few = few_boards sheet deals (vec_items c.in_ok-boards.boards) boards.whole c.args.nest.now.kept in (
       omega (arith, few, ap length c.as_slice.ensures.value),
-      subst (All (λ (b : BoardProgram). b.steps ≤ 871200000)) (sym c.as_slice.ensures.value) boards.small,
+      subst (AllByRecursion (λ (b : BoardProgram). b.steps ≤ 871200000)) (sym c.as_slice.ensures.value) boards.small,
     )
 
 pub invariant_of-result : goal.invariant_of-result
