@@ -2,7 +2,7 @@
 use Rattle.std.proofs.Common.{◌≡◌, ℕ, zero, suc, ◌+◌, ◌*◌, ◌<◌, ◌≤◌, Bool, true, false, cond, ◌&&◌, eqb, ◌⊎◌, List, [], ◌∷◌, length, refl, ap, ◌∙◌, ap₂, inl, inr, mul_assoc, suc-mul, arith}
 use Rattle.std.proofs.lemmas.Bool.{cases_eq, cases_lt, cases_Bool, cond-true, cond-false, eq-eqb, ne_eqb, and_from}
 use Rattle.belt.specs.declared.slots.Slot.{Slot}
-use Rattle.belt.specs.Belt.{for_pair, letters_for_lem, Kept}
+use Rattle.belt.specs.Belt.{for_pair, letters_for, Kept}
 use Rattle.belt.proofs.Lines.{letters_mine, letters_other}
 
 -- the sum of f over the numbers below n
@@ -59,12 +59,12 @@ tally_one a (suc n) l = go (tally_one a n) (cases_eq a n)
 module _ {V : Type 0} where
   -- how many letters of each pair of n boards a list of slots holds, summed over the pairs
   abbrev crowd : ℕ → List (Slot V) → ℕ
-  crowd n slots = tally (λ p. tally (λ q. length (letters_for_lem p q slots)) n) n
+  crowd n slots = tally (λ p. tally (λ q. length (letters_for p q slots)) n) n
 
-  pub one_more : (p q : ℕ) (s : Slot V) (ss : List (Slot V)) → length (letters_for_lem p q (s ∷ ss)) ≡ cond (for_pair p q s) 1 0 + length (letters_for_lem p q ss)
+  pub one_more : (p q : ℕ) (s : Slot V) (ss : List (Slot V)) → length (letters_for p q (s ∷ ss)) ≡ cond (for_pair p q s) 1 0 + length (letters_for p q ss)
   one_more p q s ss = go (cases_Bool (for_pair p q s))
     where
-      go : (for_pair p q s ≡ true) ⊎ (for_pair p q s ≡ false) → length (letters_for_lem p q (s ∷ ss)) ≡ cond (for_pair p q s) 1 0 + length (letters_for_lem p q ss)
+      go : (for_pair p q s ≡ true) ⊎ (for_pair p q s ≡ false) → length (letters_for p q (s ∷ ss)) ≡ cond (for_pair p q s) 1 0 + length (letters_for p q ss)
       go (inl e) =
           let here : cond {A = ℕ} (for_pair p q s) 1 0 ≡ 1 = cond-true (for_pair p q s) 1 0 e in
           omega (arith, ap length (letters_mine p q s ss e))
@@ -82,11 +82,11 @@ module _ {V : Type 0} where
 
   crowd_more : (n : ℕ) (s : Slot V) (ss : List (Slot V)) → s.from < n → s.to < n → crowd n (s ∷ ss) ≡ 1 + crowd n ss
   crowd_more n s ss h k =
-      tally_same (λ p. tally (λ q. length (letters_for_lem p q (s ∷ ss))) n) (λ p. cond (eqb s.from p) 1 0 + tally (λ q. length (letters_for_lem p q ss)) n) n
-      (λ p. tally_same (λ q. length (letters_for_lem p q (s ∷ ss))) (λ q. cond (for_pair p q s) 1 0 + length (letters_for_lem p q ss)) n (λ q. one_more p q s ss)
-      ∙ tally_add (λ q. cond (for_pair p q s) 1 0) (λ q. length (letters_for_lem p q ss)) n
-      ∙ ap (λ x. x + tally (λ q. length (letters_for_lem p q ss)) n) (one_receiver p n s k))
-      ∙ tally_add (λ p. cond (eqb s.from p) 1 0) (λ p. tally (λ q. length (letters_for_lem p q ss)) n) n
+      tally_same (λ p. tally (λ q. length (letters_for p q (s ∷ ss))) n) (λ p. cond (eqb s.from p) 1 0 + tally (λ q. length (letters_for p q ss)) n) n
+      (λ p. tally_same (λ q. length (letters_for p q (s ∷ ss))) (λ q. cond (for_pair p q s) 1 0 + length (letters_for p q ss)) n (λ q. one_more p q s ss)
+      ∙ tally_add (λ q. cond (for_pair p q s) 1 0) (λ q. length (letters_for p q ss)) n
+      ∙ ap (λ x. x + tally (λ q. length (letters_for p q ss)) n) (one_receiver p n s k))
+      ∙ tally_add (λ p. cond (eqb s.from p) 1 0) (λ p. tally (λ q. length (letters_for p q ss)) n) n
       ∙ ap (λ x. x + crowd n ss) (tally_one s.from n h)
 
   pub own_pair : (s : Slot V) → for_pair s.from s.to s ≡ true
@@ -101,7 +101,7 @@ module _ {V : Type 0} where
   crowd_all : (n d : ℕ) (slots : List (Slot V)) → Kept n d slots → crowd n slots ≡ length slots
   crowd_all n d [] kept = tally_same (λ p. tally (λ q. 0) n) (λ p. 0) n (λ p. tally_zero n) ∙ tally_zero n
   crowd_all n d (s ∷ ss) kept =
-      let mine : length (letters_for_lem s.from s.to (s ∷ ss)) ≡ suc (length (letters_for_lem s.from s.to ss)) = ap length (letters_mine s.from s.to s ss (own_pair s)) in
+      let mine : length (letters_for s.from s.to (s ∷ ss)) ≡ suc (length (letters_for s.from s.to ss)) = ap length (letters_mine s.from s.to s ss (own_pair s)) in
       let k = kept s.from s.to in
       let h : s.from < n = below s.from n (λ l. k.1 l) mine in
       let l : s.to < n = below s.to n (λ l. k.2 l) mine in
@@ -114,8 +114,8 @@ module _ {V : Type 0} where
           go (inl l) = l
           go (inr l) = absurd (omega (arith, none l))
 
-  pub some_room : (n d p q : ℕ) (slots : List (Slot V)) → Kept n d slots → p < n → q < n → length (letters_for_lem p q slots) < d → length slots < n * n * d
+  pub some_room : (n d p q : ℕ) (slots : List (Slot V)) → Kept n d slots → p < n → q < n → length (letters_for p q slots) < d → length slots < n * n * d
   some_room n d p q slots kept h k less =
-      let inner : tally (λ r. length (letters_for_lem p r slots)) n < n * d = tally_fewer (λ r. length (letters_for_lem p r slots)) d n q k less (λ r _. (kept p r).0) in
-      let outer : crowd n slots < n * (n * d) = tally_fewer (λ s. tally (λ r. length (letters_for_lem s r slots)) n) (n * d) n p h inner (λ s _. tally_most (λ r. length (letters_for_lem s r slots)) d n (λ r _. (kept s r).0)) in
+      let inner : tally (λ r. length (letters_for p r slots)) n < n * d = tally_fewer (λ r. length (letters_for p r slots)) d n q k less (λ r _. (kept p r).0) in
+      let outer : crowd n slots < n * (n * d) = tally_fewer (λ s. tally (λ r. length (letters_for s r slots)) n) (n * d) n p h inner (λ s _. tally_most (λ r. length (letters_for s r slots)) d n (λ r _. (kept s r).0)) in
       omega (arith, crowd_all n d slots kept, mul_assoc n n d)

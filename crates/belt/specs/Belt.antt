@@ -7,23 +7,23 @@ use Rattle.post.specs.Mail.{Mail}
 abbrev pub for_pair : {V : Type 0} → ℕ → ℕ → Slot V → Bool
 for_pair p q s = s.from == p && s.to == q
 
-abbrev pub letter_of_lem : {V : Type 0} → Slot V → V
-letter_of_lem s = s.letter
+abbrev pub letter_of : {V : Type 0} → Slot V → V
+letter_of s = s.letter
 
 -- The letters from p to q, in order of arrival.
-abbrev pub letters_for_lem : {V : Type 0} → ℕ → ℕ → List (Slot V) → List V
-letters_for_lem p q slots = map letter_of_lem (filter (for_pair p q) slots)
+abbrev pub letters_for : {V : Type 0} → ℕ → ℕ → List (Slot V) → List V
+letters_for p q slots = map letter_of (filter (for_pair p q) slots)
 
 -- No pair has more than d letters, and a pair outside n boards has none.
 abbrev pub Kept : {V : Type 0} → ℕ → ℕ → List (Slot V) → Type 0
-Kept n d slots = (p q : ℕ) → (length (letters_for_lem p q slots) ≤ d) × (n ≤ p → length (letters_for_lem p q slots) ≤ 0) × (n ≤ q → length (letters_for_lem p q slots) ≤ 0)
+Kept n d slots = (p q : ℕ) → (length (letters_for p q slots) ≤ d) × (n ≤ p → length (letters_for p q slots) ≤ 0) × (n ≤ q → length (letters_for p q slots) ≤ 0)
 
 -- What looking for the pair's first slot gives: none where the pair has no letter; else a place, with a slot of the
 -- pair, before which there is no other.
 abbrev pub FirstOf : {V : Type 0} → ℕ → ℕ → List (Slot V) → Option ℕ → Type 0
-FirstOf p q slots None = length (letters_for_lem p q slots) ≡ 0
-FirstOf {V} p q slots (Some i) = (i < length slots) × (length (letters_for_lem p q (take i slots)) ≡ 0) × ((s : Slot V) → for_pair p q (slice_index_or slots i s) ≡ true)
+FirstOf p q slots None = length (letters_for p q slots) ≡ 0
+FirstOf {V} p q slots (Some i) = (i < length slots) × (length (letters_for p q (take i slots)) ≡ 0) × ((s : Slot V) → for_pair p q (slice_index_or slots i s) ≡ true)
 
 -- The post that a belt of n boards and depth d means, whose first `used` slots are taken.
 abbrev pub belt_mail : {V : Type 0} → ℕ → ℕ → ℕ → List (Slot V) → Mail V
-belt_mail n d used slots = record { boards = n; depth = d; row = λ p q. letters_for_lem p q (take used slots) }
+belt_mail n d used slots = record { boards = n; depth = d; row = λ p q. letters_for p q (take used slots) }

@@ -1,7 +1,7 @@
 //! The line of letters on a belt, and the work of the belt on the slice of slots that is handed over.
 ghost use Rattle.std.specs.Prelude.{◌≡◌, ◌+◌, ◌-◌, ◌*◌, ◌<◌, ◌≤◌, length, take, Ok};
 ghost use Rattle.post.specs.Answers.{said_put, said_take};
-ghost use Rattle.belt.specs.Belt.{Kept, FirstOf, belt_mail, letters_for_lem};
+ghost use Rattle.belt.specs.Belt.{Kept, FirstOf, belt_mail, letters_for};
 ghost use Rattle.post.specs.Mail.{Served, put_answer, after_put, take_answer, after_take};
 ghost use Rattle.std.specs.List.{remove};
 
@@ -11,7 +11,7 @@ use post::answers::Posted;
 /// How many letters of a pair the first `used` slots hold.
 pub(crate) fn count_of<T: Copy>(slots: &[Slot<T>], used: usize, from: usize, to: usize) -> usize
     requires { used ≤ length slots.now }
-    ensures { result ≡ length (letters_for_lem from to (take used slots.now)) }
+    ensures { result ≡ length (letters_for from to (take used slots.now)) }
 {
     let mut count = 0;
     for k in 0..used {

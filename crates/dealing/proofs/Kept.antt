@@ -25,4 +25,4 @@ dealable Rows g a gk ak =
 dealable Columns g a gk ak =
     let b = (grid_parts_lem g gk).columns in
     let x = array_parts a ak in
-    ((b.0, b.1, x.columns.0, x.columns.1), run_kept a.column_map x.by_columns_lem)
+    ((b.0, b.1, x.columns.0, x.columns.1), run_kept a.column_map x.by_columns)

@@ -30,14 +30,14 @@ pub record ArrayParts (a : Array) : Type 0 where
   pub rows : (1 ≤ a.rows) × (a.rows ≤ 32)
   pub columns : (1 ≤ a.columns) × (a.columns ≤ 32)
   pub by_rows : map_kept a.row_map ≡ true
-  pub by_columns_lem : map_kept a.column_map ≡ true
+  pub by_columns : map_kept a.column_map ≡ true
 
 pub array_parts : (a : Array) → array_kept a ≡ true → ArrayParts a
 array_parts a k =
     let p = and_parts (between 1 32 a.rows && between 1 32 a.columns && map_kept a.row_map) (map_kept a.column_map) k in
     let q = and_parts (between 1 32 a.rows && between 1 32 a.columns) (map_kept a.row_map) p.0 in
     let r = and_parts (between 1 32 a.rows) (between 1 32 a.columns) q.0 in
-    record { rows = bounds 1 32 a.rows r.0; columns = bounds 1 32 a.columns r.1; by_rows = q.1; by_columns_lem = p.1 }
+    record { rows = bounds 1 32 a.rows r.0; columns = bounds 1 32 a.columns r.1; by_rows = q.1; by_columns = p.1 }
 
 pub record NestParts (g : Grid) (arrays : List Array) (sweeps : ℕ) (statements : List Said) : Type 0 where
   pub grid : grid_kept g ≡ true

@@ -86,7 +86,7 @@ module _ {V : Type 0} (k : Setting V) where
 
 -- a memory and buffers between two statements
 pub record Between {V : Type 0} (k : Setting V) (m : Memory V) (b : Buffers V) : Type 0 where
-  pub no_letters_lem : NoLetters m
+  pub without_letters : NoLetters m
   pub elements : Agrees k.arrays k.outside m.elements b.elements
   pub elements_length : length b.elements ≡ total k.arrays
   pub held_length : length b.held ≡ total k.arrays
@@ -109,11 +109,11 @@ module _ {V : Type 0} (happen : StatementsHappen V) (n : Sheet) (deals : Deals) 
       → Leads (setting_of plus times coefficients n.arrays outside) (depth_of n deals) m (statement_events n.grid.rows deals s) (after_statement (setting_of plus times coefficients n.arrays outside) b s)
   statement_leads s ms m b so =
       let k : Setting V = setting_of plus times coefficients n.arrays outside in
-      let h = happen n deals kept fit sound plus times coefficients outside s ms m b so.no_letters_lem so.elements so.elements_length so.held_length in
+      let h = happen n deals kept fit sound plus times coefficients outside s ms m b so.without_letters so.elements so.elements_length so.held_length in
       let long = statement_length k b s in
       record {
         can = all_can_deeper k (statement_depth n.grid deals s) (depth_of n deals) m (statement_events n.grid.rows deals s) (depth_enough n deals s ms) h.can;
-        between = record { no_letters_lem = h.no_letters_lem; elements = h.elements; elements_length = long.0 ∙ so.elements_length; held_length = long.1 ∙ so.held_length };
+        between = record { without_letters = h.without_letters; elements = h.elements; elements_length = long.0 ∙ so.elements_length; held_length = long.1 ∙ so.held_length };
       }
 
   sweep_leads : (statements : List Said) → ((s : Said) → In s statements → In s n.statements) → (m : Memory V) (b : Buffers V) → Between (setting_of plus times coefficients n.arrays outside) m b

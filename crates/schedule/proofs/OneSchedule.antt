@@ -44,7 +44,7 @@ module _ (V : Type 0) (n : Sheet) (deals : Deals) (plus times : V → V → V) (
   -- what a loaded state is like, with any values held
   loaded_between : (held : List V) → length arrays ≡ total n.arrays → length held ≡ total n.arrays
       → Between (setting_of plus times coefficients n.arrays outside) (memory_of n.grid.rows deals s) (buffers_of arrays held)
-  loaded_between held long held-long = record { no_letters_lem = loaded.empty; elements = loaded.have; elements_length = long; held_length = held-long }
+  loaded_between held long held-long = record { without_letters = loaded.empty; elements = loaded.have; elements_length = long; held_length = held-long }
 
   -- what was carried out from it, completes it
   completed : (fits : EventsFit n deals) (list : List ℕ)

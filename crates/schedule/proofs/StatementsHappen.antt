@@ -123,6 +123,6 @@ statements_happen V n deals kept fit sound plus times coefficients outside s wit
     let goes = goes_from k depth events m (memory_of m.elements m.held []) end (memory_without m none) leads.goes in
     record {
       can = goes.0;
-      no_letters_lem = λ p q. ap (λ (x : Memory V). x.row p q) goes.1;
+      without_letters = λ p q. ap (λ (x : Memory V). x.row p q) goes.1;
       elements = λ e at. ap (λ (x : Memory V). x.elements e) goes.1 ∙ leads.agrees e at;
     }

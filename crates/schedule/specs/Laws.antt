@@ -63,7 +63,7 @@ EventsAreCarriedOut V =
 -- statement leaves in sequence, whatever was held
 pub record StatementHappens {V : Type 0} (k : Setting V) (g : ℕ) (deals : Deals) (s : Said) (depth : ℕ) (m : Memory V) (b : Buffers V) : Type 0 where
   pub can : AllCan k depth m (statement_events g deals s)
-  pub no_letters_lem : NoLetters (after_events k m (statement_events g deals s))
+  pub without_letters : NoLetters (after_events k m (statement_events g deals s))
   pub elements : Agrees k.arrays k.outside (after_events k m (statement_events g deals s)).elements (after_statement k b s).elements
 
 abbrev pub StatementsHappen : (V : Type 0) → Type 0

@@ -44,8 +44,8 @@ module _ (grid : Grid) (deals : Deals) (t x y : ℕ) (R C : Deal) (R-is : R ≡ 
     pub board_low : o + grid.rows * p < grid.rows * grid.columns
     board_low = omega (arith, same_board, board_below R C grid.rows grid.columns sr sc high wide x y px py)
 
-    pub owner_in_lem : p < C.boards
-    owner_in_lem = omega (arith, sc.4 y py)
+    pub owner_in : p < C.boards
+    owner_in = omega (arith, sc.4 y py)
 
     module _ (starts : List ℕ) (begun : PartsBegin grid deals starts) (w : ℕ) (w-is : w ≡ share C p) where
       cell_is : n * w + m ≡ rank R x * share C (owner C y) + rank C y

@@ -57,8 +57,8 @@ module _ {X : Type 0} (f : ℕ → List X) (w : ℕ) (wide : (x : ℕ) → lengt
       let k : suc r * w + c ≡ length (f x) + (r * w + c) = omega (arith, suc-mul r w, wide x) in
       ap (λ m. get_or (f x ++ flat_map f xs) m d) k ∙ get_or-append-add (f x) (flat_map f xs) _ d ∙ rows_at xs r c d (omega arith) l
 
-owned_length_lem : (d : Deal) (b : ℕ) → length (owned_by d b) ≡ share d b
-owned_length_lem d b = length-map-range_with_len (λ r. unwrap_or (position d b r) 0) 0 (share d b)
+owned_length : (d : Deal) (b : ℕ) → length (owned_by d b) ≡ share d b
+owned_length d b = length-map-range_with_len (λ r. unwrap_or (position d b r) 0) 0 (share d b)
 
 -- a position stands at its rank among those of its owner
 owned_at : (d : Deal) (x : ℕ) → Position d x → get_or (owned_by d (owner d x)) (rank d x) 0 ≡ x
@@ -82,17 +82,17 @@ module _ {X : Type 0} (f : ℕ → List X) (size : ℕ → ℕ) (sized : (i : �
 
 module _ (C : Deal) (b t : ℕ) where
   row_length : (x : ℕ) → length (row_list C b t x) ≡ share C b
-  row_length x = length-map {B = Element} (owned_by C b) (λ y. (t, x, y)) ∙ owned_length_lem C b
+  row_length x = length-map {B = Element} (owned_by C b) (λ y. (t, x, y)) ∙ owned_length C b
 
   -- the part of board row a and board column b
   part_length : (R : Deal) (a : ℕ) → length (flat_map (row_list C b t) (owned_by R a)) ≡ share R a * share C b
-  part_length R a = rows_length (row_list C b t) (share C b) row_length (owned_by R a) ∙ ap (λ n. n * share C b) (owned_length_lem R a)
+  part_length R a = rows_length (row_list C b t) (share C b) row_length (owned_by R a) ∙ ap (λ n. n * share C b) (owned_length R a)
 
 part_at : (R C : Deal) (t x y : ℕ) (d : Element) → Position R x → Position C y → get_or (flat_map (row_list C (owner C y) t) (owned_by R (owner R x))) (rank R x * share C (owner C y) + rank C y) d ≡ (t, x, y)
 part_at R C t x y d onx ony =
-    rows_at (row_list C (owner C y) t) (share C (owner C y)) (row_length C (owner C y) t) (owned_by R (owner R x)) (rank R x) (rank C y) d (omega (arith, owned_length_lem R (owner R x), rank_below R x onx)) (rank_below C y ony)
+    rows_at (row_list C (owner C y) t) (share C (owner C y)) (row_length C (owner C y) t) (owned_by R (owner R x)) (rank R x) (rank C y) d (omega (arith, owned_length R (owner R x), rank_below R x onx)) (rank_below C y ony)
     ∙ ap (λ z. get_or (row_list C (owner C y) t z) (rank C y) d) (owned_at R x onx)
-    ∙ get_or-map {Y = Element} (λ w. (t, x, w)) (owned_by C (owner C y)) (rank C y) 0 d (omega (arith, owned_length_lem C (owner C y), rank_below C y ony))
+    ∙ get_or-map {Y = Element} (λ w. (t, x, w)) (owned_by C (owner C y)) (rank C y) 0 d (omega (arith, owned_length C (owner C y), rank_below C y ony))
     ∙ ap {B = Element} (λ w. (t, x, w)) (owned_at C y ony)
 
 module _ (grid : Grid) (arrays : List Array) (deals : Deals) (fit : Fits grid arrays deals) (sound : EachSound deals) where
@@ -102,8 +102,8 @@ module _ (grid : Grid) (arrays : List Array) (deals : Deals) (fit : Fits grid ar
   sized_section : (p : ℕ) → length (section_list grid.rows deals p) ≡ section_size grid.rows deals p
   sized_section p = length_all (part_list grid.rows deals p) (part_size grid.rows deals p) (sized_part p) (length deals.rows)
 
-  element_at_lem : (t x y : ℕ) (d : Element) → IsElement arrays t x y → get_or (section_order grid deals) (section_of grid.rows deals t x y) d ≡ (t, x, y)
-  element_at_lem t x y d e =
+  element_at : (t x y : ℕ) (d : Element) → IsElement arrays t x y → get_or (section_order grid deals) (section_of grid.rows deals t x y) d ≡ (t, x, y)
+  element_at t x y d e =
       let q : ℕ = grid.rows in
       let p : ℕ = board_of q deals t x y in
       let h : t < length arrays = here grid arrays deals fit sound t x y e in
@@ -120,4 +120,4 @@ module _ (grid : Grid) (arrays : List Array) (deals : Deals) (fit : Fits grid ar
 
   pub place_is_index : PlaceIsIndex grid arrays deals
   place_is_index =
-      (length_all (section_list grid.rows deals) (section_size grid.rows deals) sized_section (grid.rows * grid.columns) ∙ sections_total grid arrays deals fit sound, element_at_lem)
+      (length_all (section_list grid.rows deals) (section_size grid.rows deals) sized_section (grid.rows * grid.columns) ∙ sections_total grid arrays deals fit sound, element_at)

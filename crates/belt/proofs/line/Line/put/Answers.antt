@@ -1,6 +1,6 @@
 use Rattle.std.proofs.Common.{◌<◌, ◌≢◌, length, take, refl, ◌∙◌, arith}
 use Rattle.std.proofs.lemmas.List.{length-set}
-use Rattle.belt.specs.Belt.{belt_mail, letters_for_lem}
+use Rattle.belt.specs.Belt.{belt_mail, letters_for}
 use Rattle.belt.proofs.BeltRows.{slot_free, slot_kept, belt_put}
 use Rattle.post.proofs.Steps.{put_joined}
 use Rattle.belt.proofs.line.Line.put.Goals as goal
@@ -18,7 +18,7 @@ returns g c =
     let from = c.args.from in
     let to = c.args.to in
     let s = c.requires.served in
-    let free : length (letters_for_lem from to (take l.used slots)) ≢ l.depth = λ e. c.if-count_of-self.false (c.count_of.ensures ∙ e) in
+    let free : length (letters_for from to (take l.used slots)) ≢ l.depth = λ e. c.if-count_of-self.false (c.count_of.ensures ∙ e) in
     let below : l.used < length slots = slot_free l.boards l.depth l.used from to slots s.0 s.1 c.args.letter free c.requires.kept c.requires.room c.requires.held in
     record {
       answer = put_joined (belt_mail l.boards l.depth l.used slots) from to s.0 s.1 free;
