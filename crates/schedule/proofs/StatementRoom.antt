@@ -15,7 +15,7 @@ use Rattle.sequential.specs.Laws.{In}
 use Rattle.sequential.specs.declared.iteration.Iteration.{Iteration}
 use Rattle.compiler.specs.Spans.{seat}
 use Rattle.compiler.specs.Cells.{element_at}
-use Rattle.compiler.specs.Totals.{boards_of, letter_in, letters_for, letters_in, between, room_for, greatest, statement_depth}
+use Rattle.compiler.specs.Totals.{boards_of, letter_in, letters_for, letters_in, between, room_for, statement_depth}
 use Rattle.schedule.proofs.WaitingLetters.{Waiting, rows_in, rows_append, eqb_turned}
 use Rattle.schedule.proofs.TaskEvents.{receiver, sender, letter_of}
 use Rattle.schedule.proofs.StatementPasses.{Room, letters_over, all_letters}

@@ -4,7 +4,6 @@ use Rattle.std.specs.List.{flat_map}
 use Rattle.nest.specs.Terms.{Said, Sheet}
 use Rattle.nest.specs.declared.terms.Mode.{Mode}
 use Rattle.nest.specs.declared.terms.Mode.TheVariants.{All, Seq}
-use Rattle.nest.specs.declared.terms.ReadTerm.{ReadTerm}
 use Rattle.sections.specs.Order.{Element}
 use Rattle.sections.specs.Sections.{Deals, board_of}
 use Rattle.sequential.specs.Iterations.{iterations}

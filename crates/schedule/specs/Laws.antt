@@ -3,7 +3,6 @@ use Rattle.std.specs.Prelude.{◌≡◌, ℕ, ◌+◌, ◌<◌, true, List, [], 
 use Rattle.std.specs.List.{range_with_len}
 use Rattle.nest.specs.Terms.{Said, Sheet}
 use Rattle.nest.specs.Sound.{nest_kept}
-use Rattle.nest.specs.declared.terms.Array.{Array}
 use Rattle.layout.specs.Places.{total}
 use Rattle.sections.specs.Order.{Element}
 use Rattle.sections.specs.Sections.{Deals, Fits}
