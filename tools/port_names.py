@@ -12,7 +12,7 @@ import os
 import re
 import sys
 
-SIGNATURE = re.compile(r"^\s*(?:(?:abbrev|unfoldable|pub|record|data|ruleset|syntax)\s+)*([A-Za-z][^\s(){}\[\],;.:\"]*)\s+:\s")
+SIGNATURE = re.compile(r"^\s*(?:(?:abbrev|unfoldable|pub|record|data|ruleset|syntax)\s+)*([A-Za-z][^\s(){}\[\],;.:\"]*)\s+:(?:\s|$)")
 HEAD = re.compile(r"^\s*(?:pub\s+)?(?:record|data)\s+([A-Z][^\s(){}\[\],;.:\"]*)")
 TOKEN = re.compile(r"[^\s(){}\[\],;.:\"`|]+")
 IMPORT = re.compile(r"use\s+([^\s{]+?)\.?\{([^}]*)\}")

@@ -47,13 +47,13 @@ module _ {V : Type 0} (n d p q pair : ℕ) (is : pair ≡ place n p q) (h : p < 
       ∙ ap (λ j. in_ring (ring_at rings j) (lane d letters j)) (sym is)
 
   -- rings and letters that differ from others in the place of one pair change that pair's row
-  pub row-changed :
+  pub row_changed :
       (rings changed : List Ring) (letters written vs : List V) →
       in_ring (ring_at changed pair) (lane d written pair) ≡ vs →
       ((j : ℕ) → j ≢ pair → ring_at changed j ≡ ring_at rings j) →
       ((j : ℕ) → j ≢ pair → lane d written j ≡ lane d letters j) →
       lanes_mail n d changed written ≡ with_row (lanes_mail n d rings letters) p q vs
-  row-changed rings changed letters written vs new same-rings same-lanes =
+  row_changed rings changed letters written vs new same-rings same-lanes =
       one_row (lanes_mail n d rings letters) (lanes_mail n d changed written) p q vs refl refl (row_of changed written ∙ new) λ s r ne. go s r ne (ltb s n && ltb r n) (λ e. e)
     where
       row : List Ring → List V → ℕ → ℕ → List V
@@ -140,7 +140,7 @@ module _ {V : Type 0} {n d p q pair : ℕ} {rings : List Ring} {letters : List V
       pub lanes_put : lanes_mail n d (set rings pair longer) (set letters spot v) ≡ after_put mail p q v
       lanes_put =
           ap (λ i. lanes_mail n d (set rings pair longer) (set letters i v)) spotted
-          ∙ row-changed n d p q pair is h k rings (set rings pair longer) letters (set letters (pair * d + at) v) (mail.row p q ++ (v ∷ [])) ring_longer (other_rings longer)
+          ∙ row_changed n d p q pair is h k rings (set rings pair longer) letters (set letters (pair * d + at) v) (mail.row p q ++ (v ∷ [])) ring_longer (other_rings longer)
           (λ j ne. lane_other d letters pair j at v at_below ne)
           ∙ put_joins mail p q h k v (λ e. free (sym row_length ∙ e))
 
@@ -186,7 +186,7 @@ module _ {V : Type 0} {n d p q pair : ℕ} {rings : List Ring} {letters : List V
 
       pub lanes_take : lanes_mail n d (set rings pair shorter) letters ≡ after_take mail p q
       lanes_take =
-          row-changed n d p q pair is h k rings (set rings pair shorter) letters letters (drop 1 (mail.row p q))
+          row_changed n d p q pair is h k rings (set rings pair shorter) letters letters (drop 1 (mail.row p q))
           (ap (λ r. in_ring r (lane d letters pair)) (new_ring shorter)
           ∙ ring_next (lane d letters pair) ring.first x oldest_inside d ring.count places (within pair).0 some next round
           ∙ sym (ap (drop 1) row_split))

@@ -81,11 +81,11 @@ module _ {V : Type 0} where
   pub answered_none : (m : Mail V) (calls : List (Call V)) (before : List (Reply V)) → Answered m calls before before m 0
   answered_none m calls before = made m calls before before m 0 refl refl refl
 
-  pub answered-more :
+  pub answered_more :
       {m now next : Mail V} {calls : List (Call V)} {before replies : List (Reply V)} {k : ℕ} (c : Call V) (r : Reply V) →
       Answered m calls before replies now k → k < length calls → k < length replies → c ≡ get_or calls k c → said r ≡ answer_of now c → next ≡ after_call now c →
       Answered m calls before (set replies k r) next (k + 1)
-  answered-more {m} {now} {next} {calls} {before} {replies} {k} c r s h l read answered changed =
+  answered_more {m} {now} {next} {calls} {before} {replies} {k} c r s h l read answered changed =
       let more : take (k + 1) calls ≡ take k calls ++ (c ∷ []) = take_more calls k c h ∙ ap (λ x. take k calls ++ (x ∷ [])) (sym read) in
       made m calls before (set replies k r) next (k + 1)
       (ap (map said) (take_more_set replies k r l)

@@ -2,7 +2,6 @@
 ghost use Rattle.std.specs.Prelude.{◌≡◌, ◌<◌};
 ghost use Rattle.owner_map.specs.Meaning.{tally, share};
 ghost use Rattle.sections.specs.MapTables.{tabled};
-ghost use Rattle.std.proofs.Common.{rules, arith};
 
 use super::map_table::MapTable;
 use owner_map::{MOST_POSITIONS, OwnerMap, Refusal};
@@ -33,7 +32,7 @@ impl MapTable {
 impl OwnerMap for MapTable {
     ghost meaning = { tabled };
 
-    ghost sound = { first_of (Prim.search rules, Prim.grind (arith, Self.row.coded.inj)) };
+    ghost sound = { λ m. m.sound };
 
     fn boards(&self) -> usize {
         self.boards

@@ -1,7 +1,6 @@
 ghost use Rattle.std.specs.Prelude.{◌≡◌};
 ghost use Rattle.owner_map.specs.Meaning.{tally, seek};
 ghost use Rattle.owner_map.specs.TableDeal.{table_deal};
-ghost use Rattle.std.proofs.Common.{rules, arith};
 
 use super::super::questions::OwnerMap;
 use super::super::refusal::Refusal;
@@ -39,7 +38,7 @@ fn find(row: &[usize], board: usize, rank: usize) -> Option<usize>
 impl OwnerMap for OwnerTable {
     ghost meaning = { table_deal };
 
-    ghost sound = { first_of (Prim.search rules, Prim.grind (arith, Self.row.coded.inj)) };
+    ghost sound = { λ m. m.sound };
 
     fn boards(&self) -> usize {
         self.boards

@@ -1,5 +1,5 @@
 use Rattle.std.proofs.Common.{◌≡◌, ◌<◌, length, arith, rules}
-use Rattle.post.proofs.CallRuns.{answered_none, answered-more}
+use Rattle.post.proofs.CallRuns.{answered_none, answered_more}
 use Rattle.post.proofs.calls.serve.Goals as goal
 
 pub loop-k-init : goal.loop-k-init
@@ -11,7 +11,7 @@ offset_bounds-replies-k g c =
     search rules
 
 pub loop-k-preserved : goal.loop-k-preserved
-loop-k-preserved g c = answered-more c.index-calls-k.result c.make_call.result c.loop-k.invariant (omega arith) (omega arith) c.index-calls-k.is c.make_call.ensures.answer c.make_call.ensures.after
+loop-k-preserved g c = answered_more c.index-calls-k.result c.make_call.result c.loop-k.invariant (omega arith) (omega arith) c.index-calls-k.is c.make_call.ensures.answer c.make_call.ensures.after
 
 pub returns : goal.returns
 returns g c =
