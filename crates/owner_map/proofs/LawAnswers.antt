@@ -1,5 +1,6 @@
 -- What a map answers to questions that rest on its own answers.
-use Rattle.std.proofs.Common.{◌≡◌, ℕ, ◌<◌, ltb, Some, None, Option, Result, sym, ap, ◌∙◌, subst, ap₂}
+use Rattle.std.proofs.Common.{◌≡◌, ℕ, ◌<◌, ◌==◌, arith, ltb, Some, None, Option, Result, sym, ap, ◌∙◌, subst, ap₂}
+use Rattle.std.proofs.lemmas.Bool.Decides.{nat_tests}
 use Rattle.std.proofs.lemmas.Bool.{lt-ltb, le-ltb, cond-true, cond-false}
 use Rattle.owner_map.specs.declared.refusal.Refusal.{Refusal}
 use Rattle.owner_map.specs.Answer.{Given, Found}
@@ -7,6 +8,10 @@ use Rattle.owner_map.specs.Laws.{place_again}
 use Rattle.owner_map.specs.Meaning.{Deal, Sound, Position, Board, owner, rank, place, position, share}
 use Rattle.owner_map.proofs.Answering.{given_like}
 use Rattle.owner_map.specs.Deals.{place_undone, position_undone, place_determines, rank_reached, rank_missed}
+
+-- Two tests of equality agree where each equation follows from the other.
+pub same_tests : (a b x y : ℕ) → (a ≡ b → x ≡ y) → (x ≡ y → a ≡ b) → (a == b) ≡ (x == y)
+same_tests a b x y to from = grind (arith, nat_tests)
 
 module _ (d : Deal) where
   -- The two parts of a place.

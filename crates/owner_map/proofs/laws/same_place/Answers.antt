@@ -3,7 +3,7 @@ use Rattle.std.proofs.lemmas.Result.{err_from_is_err_and}
 use Rattle.std.proofs.lemmas.Bool.Decides.{nat_tests}
 use Rattle.owner_map.specs.Meaning.{Deal, owner, rank}
 use Rattle.owner_map.specs.Deals.{place_determines}
-use Rattle.owner_map.proofs.LawAnswers.{owner_of, rank_of, same_by_rank, same_place}
+use Rattle.owner_map.proofs.LawAnswers.{owner_of, rank_of, same_by_rank, same_place, same_tests}
 use Rattle.owner_map.proofs.laws.same_place.Goals as goal
 
 pub returns-in_err-owner : goal.returns-in_err-owner
@@ -30,7 +30,8 @@ returns-then-owner-other_owner g c =
     let owners : owner d c.args.x ≡ owner d c.args.y = omega arith in
     let to : rank d c.args.x ≡ rank d c.args.y → c.args.x ≡ c.args.y = same_by_rank d c.args.x c.args.y x.0 y.0 owners in
     let from : c.args.x ≡ c.args.y → rank d c.args.x ≡ rank d c.args.y = λ e. (same_place d c.args.x c.args.y e).1 in
-    record { answer = ((x.0, y.0), grind (arith, nat_tests)); law = place_determines d }
+    let same = same_tests c.in_ok-owner.rank c.in_ok-other_owner.other_rank c.args.x c.args.y (λ e. to (omega arith)) (λ e. let f = from e in omega arith) in
+    record { answer = ((x.0, y.0), same); law = place_determines d }
 
 pub returns-else-owner-other_owner : goal.returns-else-owner-other_owner
 returns-else-owner-other_owner g c =
