@@ -16,7 +16,7 @@ use Rattle.compiler.specs.declared.order.Order.{Order}
 use Rattle.compiler.specs.declared.order.Task.{Task}
 use Rattle.compiler.specs.declared.order.Task.TheVariants.{Ship, Base, Add, Store}
 use Rattle.compiler.specs.Spans.{Seat, seat, span_of, span_values, owns_value}
-use Rattle.compiler.specs.Orders.{i_kind, j_kind, task_order}
+use Rattle.compiler.specs.Orders.{i_owning, j_owning, task_order}
 use Rattle.compiler.specs.Cells.{cell_of, cells_of, present, element_at, board_at, owns_at, takes_part, parts_of}
 use Rattle.compiler.specs.Deeds.{Deed, rests, ships, works, working, deed_of, deed_in}
 use Rattle.compiler.specs.Laws.{AllSound}
@@ -107,11 +107,11 @@ module _ (g : Grid) (arrays : List Array) (deals : Deals) (fit : Fits g arrays d
       → flat_map h (present (cells_of (seat g.rows deals p) s (task_order (seat g.rows deals p) k s t))) ≡ flat_map h (iterations s.i s.j)
   cells_for k h none =
       let b : Seat = seat g.rows deals p in
-      ap (flat_map h) (present_cells (span_values b s.j (span_of b (j_kind s t) s.j)) (span_values b s.i (span_of b (i_kind s t) s.i)))
-      ∙ ap₂ (λ js is. flat_map h (flat_map (row_of js) is)) (span_values_lem b s.j (j_kind s t) (j_fits g arrays deals fit sound s kept p t task)) (span_values_lem b s.i (i_kind s t) (i_fits g arrays deals fit sound s kept p t task))
-      ∙ filtered_pairs h (owns_value b (i_kind s t)) (owns_value b (j_kind s t)) (values_of s.i) (values_of s.j)
-      (λ e f. none e (contra (takes_part b s t e) (owns_value b (i_kind s t) e.i) (part_owns_i g arrays deals fit sound s kept p t e task) f))
-      (λ e f. none e (contra (takes_part b s t e) (owns_value b (j_kind s t) e.j) (part_owns_j g arrays deals fit sound s kept p t e task) f))
+      ap (flat_map h) (present_cells (span_values b s.j (span_of b (j_owning s t) s.j)) (span_values b s.i (span_of b (i_owning s t) s.i)))
+      ∙ ap₂ (λ js is. flat_map h (flat_map (row_of js) is)) (span_values_lem b s.j (j_owning s t) (j_fits g arrays deals fit sound s kept p t task)) (span_values_lem b s.i (i_owning s t) (i_fits g arrays deals fit sound s kept p t task))
+      ∙ filtered_pairs h (owns_value b (i_owning s t)) (owns_value b (j_owning s t)) (values_of s.i) (values_of s.j)
+      (λ e f. none e (contra (takes_part b s t e) (owns_value b (i_owning s t) e.i) (part_owns_i g arrays deals fit sound s kept p t e task) f))
+      (λ e f. none e (contra (takes_part b s t e) (owns_value b (j_owning s t) e.j) (part_owns_j g arrays deals fit sound s kept p t e task) f))
 
   -- its parts are all iterations filtered by whose part it is
   pub parts_are_iterations : parts_of (seat g.rows deals p) s t ≡ filter (takes_part (seat g.rows deals p) s t) (iterations s.i s.j)

@@ -15,7 +15,7 @@ use Rattle.sequential.proofs.Kept.{Parts, parts_of, access_parts}
 use Rattle.compiler.specs.declared.order.Task.{Task}
 use Rattle.compiler.specs.declared.order.Task.TheVariants.{Ship, Base, Add, Store}
 use Rattle.compiler.specs.Spans.{seat}
-use Rattle.compiler.specs.Orders.{tasks_of, i_kind, j_kind, task_order}
+use Rattle.compiler.specs.Orders.{tasks_of, i_owning, j_owning, task_order}
 use Rattle.compiler.specs.Cells.{cells_of, board_at, takes_part}
 use Rattle.compiler.specs.Deeds.{working, deed_of, deed_in}
 use Rattle.compiler.specs.Laws.{AllSound, SpansAreOwnedValues, PartsAreIterations, OwnersAreBoards, ShippedIsTaken, StepsWhateverTheMaps, OrdersCoverTheNest}
@@ -83,7 +83,7 @@ module _ (n : Sheet) (deals : Deals) (kept : nest_kept n.grid n.arrays n.sweeps 
   spans_owned p s t h m mt =
       let parts = statement_parts_lem n kept s m in
       let task = task_kept_lem n.arrays s t parts mt in
-      (span_values_lem (seat n.grid.rows deals p) s.i (i_kind s t) (i_fits n.grid n.arrays deals fit sound s parts p t task), span_values_lem (seat n.grid.rows deals p) s.j (j_kind s t) (j_fits n.grid n.arrays deals fit sound s parts p t task))
+      (span_values_lem (seat n.grid.rows deals p) s.i (i_owning s t) (i_fits n.grid n.arrays deals fit sound s parts p t task), span_values_lem (seat n.grid.rows deals p) s.j (j_owning s t) (j_fits n.grid n.arrays deals fit sound s parts p t task))
 
   pub parts_covered : PartsAreIterations n deals
   parts_covered p s t h m mt =

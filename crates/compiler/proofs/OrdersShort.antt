@@ -1,5 +1,5 @@
 -- A board has few orders, and their spans are short. Assumes nothing.
-use Rattle.std.proofs.Common.{◌≡◌, ℕ, ◌+◌, ◌<◌, ◌≤◌, Bool, true, leb, List, [], ◌∷◌, length, get_or, refl, arith}
+use Rattle.std.proofs.Common.{◌≡◌, ℕ, ◌+◌, ◌<◌, ◌≤◌, Bool, true, leb, List, [], ◌∷◌, length, get_or, refl, arith, Option, Some, None}
 use Rattle.std.specs.List.{AllByRecursion}
 use Rattle.std.proofs.ByRecursion.{All-map, All-weaker, sum_by_le}
 use Rattle.std.proofs.lemmas.List.{length-map}
@@ -16,8 +16,7 @@ use Rattle.owner_map.specs.Deals.{below_le}
 use Rattle.dealing.specs.declared.dimension.Dimension.{Dimension}
 use Rattle.dealing.specs.declared.dimension.Dimension.TheVariants.{Rows, Columns}
 use Rattle.sections.specs.Sections.{dealt}
-use Rattle.compiler.specs.declared.span.SpanKind.{SpanKind}
-use Rattle.compiler.specs.declared.span.SpanKind.TheVariants.{Plain, Owned}
+use Rattle.compiler.specs.declared.span.Owning.{Owning}
 use Rattle.compiler.specs.Spans.{Seat, deal_in, deal_for, self_for, span_of}
 use Rattle.compiler.specs.Orders.{numbered, tasks_of, task_order, orders_by, orders_for, board_orders}
 use Rattle.compiler.specs.Making.{seat_in, Seated, Spannable, Orderable}
@@ -65,9 +64,9 @@ module _ (n : Sheet) (kept : nest_kept n.grid n.arrays n.sweeps n.statements ≡
       let a = array_parts (get_or n.arrays t nowhere) (each_at array_kept n.arrays (nest_parts n.grid n.arrays n.sweeps n.statements kept).each_array t nowhere l) in
       omega (arith, a.columns.1, (seated.0.2 t l).1.1)
 
-  span_short : (k : SpanKind) (r : Range) → Spannable board k r → (span_of board k r).end ≤ 33
-  span_short Plain r h = omega arith
-  span_short (Owned o) r h =
+  span_short : (k : Option Owning) (r : Range) → Spannable board k r → (span_of board k r).end ≤ 33
+  span_short None r h = omega arith
+  span_short (Some o) r h =
       omega (arith, below_le (deal_for board o) (self_for board o) (position o.subscript r.high + 1), deal_small o.dimension o.array (omega (arith, h.2.1, seated.0.0)))
 
   -- the orders of a statement
@@ -78,7 +77,7 @@ module _ (n : Sheet) (kept : nest_kept n.grid n.arrays n.sweeps n.statements ≡
         (All-weaker (Orderable board s) _ (λ t h. (below, span_short _ s.i h.0, span_short _ s.j h.1)) (tasks_of s) (tasks_orderable n rows columns p seated s of-nest))
     orders_short Seq =
         let h = plain_spannable n rows columns p seated s of-nest in
-        ((below, span_short Plain s.i h.0, span_short Plain s.j h.1), tt)
+        ((below, span_short None s.i h.0, span_short None s.j h.1), tt)
 
     orders_few : (mode : Mode) → length (orders_by mode board k s) ≤ 10
     orders_few AllAtOnce = omega (arith, length-map (tasks_of s) (task_order board k s), length_tasks s, few_reads n.arrays s of-nest)

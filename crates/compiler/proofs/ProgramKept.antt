@@ -1,5 +1,5 @@
 -- The orders of a nest that keeps its ranges are for statements, reads and arrays that are there. Assumes nothing.
-use Rattle.std.proofs.Common.{◌≡◌, ℕ, suc, ◌+◌, ◌<◌, ◌≤◌, Bool, true, cond, ◌&&◌, eqb, ltb, leb, List, [], ◌∷◌, ◌++◌, map, length, get_or, sym, refl, ap, ◌∙◌, subst, arith}
+use Rattle.std.proofs.Common.{◌≡◌, ℕ, suc, ◌+◌, ◌<◌, ◌≤◌, Bool, true, cond, ◌&&◌, eqb, ltb, leb, List, [], ◌∷◌, ◌++◌, map, length, get_or, sym, refl, ap, ◌∙◌, subst, arith, Option, Some, None}
 use Rattle.std.specs.List.{range_with_len, AllByRecursion}
 use Rattle.std.proofs.lemmas.List.FromFn.{length-map-range_with_len}
 use Rattle.std.proofs.ByRecursion.{All-append, All-map, All-weaker}
@@ -18,13 +18,13 @@ use Rattle.nest.specs.declared.terms.Variable.TheVariants.{I, J}
 use Rattle.nest.proofs.Keeps.{each_at, nest_parts}
 use Rattle.sections.specs.Sections.{Deals}
 use Rattle.sequential.proofs.Kept.{Parts, parts_of, factor_of, access_parts}
+use Rattle.dealing.specs.declared.dimension.Dimension.TheVariants.{Rows, Columns}
+use Rattle.compiler.specs.declared.span.Owning.{Owning}
 use Rattle.compiler.specs.declared.order.Order.{Order}
 use Rattle.compiler.specs.declared.order.Task.{Task}
 use Rattle.compiler.specs.declared.order.Task.TheVariants.{Ship, Base, Add, Store}
-use Rattle.compiler.specs.declared.span.SpanKind.{SpanKind}
-use Rattle.compiler.specs.declared.span.SpanKind.TheVariants.{Plain}
-use Rattle.compiler.specs.Spans.{Seat, seat, span_of, by_rows, by_columns, moves_with, ship_kind}
-use Rattle.compiler.specs.Orders.{numbered, tasks_of, i_kind, j_kind, task_order, walk_order, orders_by, orders_for, board_orders}
+use Rattle.compiler.specs.Spans.{Seat, seat, span_of, owning_by, moves_with, ship_owning}
+use Rattle.compiler.specs.Orders.{numbered, tasks_of, i_owning, j_owning, task_order, walk_order, orders_by, orders_for, board_orders}
 use Rattle.compiler.specs.Compiled.{board_of}
 use Rattle.compiler.specs.Keeping.{no_statement, statement_at, span_kept, task_kept, work_kept, order_kept, board_kept, program_kept}
 use Rattle.compiler.specs.Totals.{boards_of}
@@ -57,46 +57,46 @@ moving least x k h =
 
 module _ (arrays : List Array) (i j : Range) (b : Seat) (r : Range) where
   -- the spans of a range
-  abbrev Keeps : SpanKind → Type 0
+  abbrev Keeps : Option Owning → Type 0
   Keeps k = span_kept arrays r (span_of b k r) ≡ true
 
-  plain_kept : Keeps Plain
+  plain_kept : Keeps None
   plain_kept = and_from (leb r.low r.low) (leb (r.high + 1) (r.high + 1)) (le-leb r.low r.low (omega arith)) (le-leb (r.high + 1) (r.high + 1) (omega arith))
 
   module _ (least : ℕ) (a : Access) (k : access_kept least arrays i j a ≡ true) where
-    rows_kept : 1 ≤ a.row.factor → Keeps (by_rows a)
+    rows_kept : 1 ≤ a.row.factor → Keeps (Some (owning_by Rows a))
     rows_kept h =
         let p = access_parts least arrays i j a k in
         and_from (ltb a.array (length arrays)) (subscript_kept 1 a.row) (lt-ltb a.array (length arrays) p.there) (moving least a.row p.row h)
 
-    columns_kept : 1 ≤ a.column.factor → Keeps (by_columns a)
+    columns_kept : 1 ≤ a.column.factor → Keeps (Some (owning_by Columns a))
     columns_kept h =
         let p = access_parts least arrays i j a k in
         and_from (ltb a.array (length arrays)) (subscript_kept 1 a.column) (lt-ltb a.array (length arrays) p.there) (moving least a.column p.column h)
 
-    ship_kept : (v : Variable) → Keeps (ship_kind v a)
+    ship_kept : (v : Variable) → Keeps (ship_owning v a)
     ship_kept v =
-        cond_both (moves_with v a.row) (by_rows a) (cond (moves_with v a.column) (by_columns a) Plain) Keeps (λ m. rows_kept (moves_by v a.row m).1)
-        (λ _. cond_both (moves_with v a.column) (by_columns a) Plain Keeps (λ m. columns_kept (moves_by v a.column m).1) (λ _. plain_kept))
+        cond_both (moves_with v a.row) (Some (owning_by Rows a)) (cond (moves_with v a.column) (Some (owning_by Columns a)) None) Keeps (λ m. rows_kept (moves_by v a.row m).1)
+        (λ _. cond_both (moves_with v a.column) (Some (owning_by Columns a)) None Keeps (λ m. columns_kept (moves_by v a.column m).1) (λ _. plain_kept))
 
 -- of a statement that keeps its ranges
 module _ (arrays : List Array) (s : Said) (kept : Parts arrays s) (b : Seat) where
-  put_rows : span_kept arrays s.i (span_of b (by_rows s.put) s.i) ≡ true
+  put_rows : span_kept arrays s.i (span_of b (Some (owning_by Rows s.put)) s.i) ≡ true
   put_rows = rows_kept arrays s.i s.j b s.i 1 s.put kept.put (factor_of 1 s.put.row (access_parts 1 arrays s.i s.j s.put kept.put).row).0
 
-  put_columns : span_kept arrays s.j (span_of b (by_columns s.put) s.j) ≡ true
+  put_columns : span_kept arrays s.j (span_of b (Some (owning_by Columns s.put)) s.j) ≡ true
   put_columns = columns_kept arrays s.i s.j b s.j 1 s.put kept.put (factor_of 1 s.put.column (access_parts 1 arrays s.i s.j s.put kept.put).column).0
 
   source_kept : (r : ReadTerm) → read_kept arrays s.i s.j r ≡ true → access_kept 0 arrays s.i s.j r.source ≡ true
   source_kept r k = (and_parts (leb r.coefficient 7) (access_kept 0 arrays s.i s.j r.source) k).1
 
-  i_kept : (t : Task) → task_kept arrays s t ≡ true → span_kept arrays s.i (span_of b (i_kind s t) s.i) ≡ true
+  i_kept : (t : Task) → task_kept arrays s t ≡ true → span_kept arrays s.i (span_of b (i_owning s t) s.i) ≡ true
   i_kept (Ship r) k = ship_kept arrays s.i s.j b s.i 0 r.source (source_kept r k) I
   i_kept Base k = put_rows
   i_kept (Add r) k = put_rows
   i_kept Store k = put_rows
 
-  j_kept : (t : Task) → task_kept arrays s t ≡ true → span_kept arrays s.j (span_of b (j_kind s t) s.j) ≡ true
+  j_kept : (t : Task) → task_kept arrays s t ≡ true → span_kept arrays s.j (span_of b (j_owning s t) s.j) ≡ true
   j_kept (Ship r) k = ship_kept arrays s.i s.j b s.j 0 r.source (source_kept r k) J
   j_kept Base k = put_columns
   j_kept (Add r) k = put_columns

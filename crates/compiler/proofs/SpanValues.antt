@@ -12,8 +12,6 @@ use Rattle.nest.specs.declared.terms.Offset.TheVariants.{Plus, Minus}
 use Rattle.owner_map.specs.Meaning.{Deal, extent, owner, below, position as position_of}
 use Rattle.sequential.specs.Iterations.{values_of}
 use Rattle.compiler.specs.declared.span.Owning.{Owning}
-use Rattle.compiler.specs.declared.span.SpanKind.{SpanKind}
-use Rattle.compiler.specs.declared.span.SpanKind.TheVariants.{Plain, Owned}
 use Rattle.compiler.specs.Spans.{Seat, deal_for, self_for, span_of, span_values, owns_value, value_to, value_at}
 use Rattle.compiler.proofs.OwnedPositions.{held_between, owned_from, held_is_owned}
 use Rattle.compiler.proofs.FilteredLists.{present_all, kept_by_all}
@@ -120,18 +118,18 @@ pub record Reaching (b : Seat) (r : Range) (o : Owning) : Type 0 where
   pub low : 1 ≤ position o.subscript r.low
   pub high : position o.subscript r.high ≤ extent (deal_for b o)
 
-abbrev pub SpanFits : Seat → Range → SpanKind → Type 0
-SpanFits b r Plain = Unit {0}
-SpanFits b r (Owned o) = Reaching b r o
+abbrev pub SpanFits : Seat → Range → Option Owning → Type 0
+SpanFits b r None = Unit {0}
+SpanFits b r (Some o) = Reaching b r o
 
 pub reach_up : (b : Seat) (r : Range) (o : Owning) → Reaching b r o → position o.subscript r.low ≤ position o.subscript r.high
 reach_up b r o fits =
     ⊎_elim (λ same. omega (arith, ap (position o.subscript) same)) (λ other. omega (arith, fits.rises r.low r.high (omega arith) (omega (arith, fits.some)))) (cases_eq r.low r.high)
 
 -- the loop values of a span, idle ones dropped, are the loop range filtered by ownership
-pub span_values_lem : (b : Seat) (r : Range) (k : SpanKind) → SpanFits b r k → present (span_values b r (span_of b k r)) ≡ filter (owns_value b k) (values_of r)
-span_values_lem b r Plain fits = present_all (values_of r) ∙ sym (kept_by_all (values_of r))
-span_values_lem b r (Owned o) fits =
+pub span_values_lem : (b : Seat) (r : Range) (k : Option Owning) → SpanFits b r k → present (span_values b r (span_of b k r)) ≡ filter (owns_value b k) (values_of r)
+span_values_lem b r None fits = present_all (values_of r) ∙ sym (kept_by_all (values_of r))
+span_values_lem b r (Some o) fits =
     let s : Subscript = o.subscript in
     let d : Deal = deal_for b o in
     let me : ℕ = self_for b o in

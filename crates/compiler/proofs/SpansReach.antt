@@ -1,5 +1,5 @@
 -- The spans of a kept statement can be made: every position that a loop range reaches lies in its deal. Assumes nothing.
-use Rattle.std.proofs.Common.{◌≡◌, ℕ, zero, suc, ◌+◌, ◌*◌, ◌/◌, ◌%◌, ◌<◌, ◌≤◌, Bool, true, false, cond, not, leb, List, [], ◌∷◌, map, get_or, refl, ap, ◌∙◌, mul_comm, zero-mul, arith}
+use Rattle.std.proofs.Common.{◌≡◌, ℕ, zero, suc, ◌+◌, ◌*◌, ◌/◌, ◌%◌, ◌<◌, ◌≤◌, Bool, true, false, cond, not, leb, List, [], ◌∷◌, map, get_or, refl, ap, ◌∙◌, mul_comm, zero-mul, arith, Option, Some, None}
 use Rattle.std.proofs.lemmas.Nat.{div_below, mod_below}
 use Rattle.std.proofs.ByRecursion.{All-append}
 use Rattle.std.proofs.lemmas.Bool.{and_parts}
@@ -17,10 +17,10 @@ use Rattle.sequential.specs.Iterations.{variable_in, position_in}
 use Rattle.sequential.specs.Ready.{Within}
 use Rattle.sequential.specs.declared.iteration.Iteration.{Iteration}
 use Rattle.sequential.proofs.Kept.{Parts, parts_of, range_of_lem, factor_of, access_parts, inside_at}
+use Rattle.dealing.specs.declared.dimension.Dimension.TheVariants.{Rows, Columns}
+use Rattle.compiler.specs.declared.span.Owning.{Owning}
 use Rattle.compiler.specs.declared.order.Task.TheVariants.{Ship, Base, Add}
-use Rattle.compiler.specs.declared.span.SpanKind.{SpanKind}
-use Rattle.compiler.specs.declared.span.SpanKind.TheVariants.{Plain}
-use Rattle.compiler.specs.Spans.{Seat, by_rows, by_columns, same_variable, moves_with, ship_kind}
+use Rattle.compiler.specs.Spans.{Seat, owning_by, same_variable, moves_with, ship_owning}
 use Rattle.compiler.specs.Orders.{tasks_of}
 use Rattle.compiler.specs.Making.{seat_in, Seated, Answerable, Spannable, Orderable, AllOrderable}
 
@@ -48,7 +48,7 @@ row_some zero c p h = absurd (omega (arith, zero-mul c))
 row_some (suc r) c p h = omega arith
 
 -- of two kinds, the one that a test takes
-spannable_cond : (b : Seat) (t : Bool) (k l : SpanKind) (r : Range) → (t ≡ true → Spannable b k r) → Spannable b l r → Spannable b (cond t k l) r
+spannable_cond : (b : Seat) (t : Bool) (k l : Option Owning) (r : Range) → (t ≡ true → Spannable b k r) → Spannable b l r → Spannable b (cond t k l) r
 spannable_cond b true k l r h o = h refl
 spannable_cond b false k l r h o = o
 
@@ -113,7 +113,7 @@ module _ (n : Sheet) (rows columns : List Deal) (p : ℕ) (seated : Seated n row
 
     module _ (least : ℕ) (a : Access) (k : access_kept least n.arrays s.i s.j a ≡ true) where
       -- an access by its rows, if they go by the variable
-      pub rows_spannable : a.row.variable ≡ v → Spannable board (by_rows a) range
+      pub rows_spannable : a.row.variable ≡ v → Spannable board (Some (owning_by Rows a)) range
       rows_spannable e =
           let q = access_parts least n.arrays s.i s.j a k in
           let f = factor_of least a.row q.row in
@@ -127,7 +127,7 @@ module _ (n : Sheet) (rows columns : List Deal) (p : ℕ) (seated : Seated n row
           )
 
       -- by its columns
-      pub columns_spannable : a.column.variable ≡ v → Spannable board (by_columns a) range
+      pub columns_spannable : a.column.variable ≡ v → Spannable board (Some (owning_by Columns a)) range
       columns_spannable e =
           let q = access_parts least n.arrays s.i s.j a k in
           let f = factor_of least a.column q.column in
@@ -141,7 +141,7 @@ module _ (n : Sheet) (rows columns : List Deal) (p : ℕ) (seated : Seated n row
           )
 
       -- as the ship of a read goes by it
-      pub ship_spannable : Spannable board (ship_kind v a) range
+      pub ship_spannable : Spannable board (ship_owning v a) range
       ship_spannable =
           spannable_cond board (moves_with v a.row) _ _ range (λ t. rows_spannable (moves_same v a.row t))
           (spannable_cond board (moves_with v a.column) _ _ range (λ t. columns_spannable (moves_same v a.column t)) small_range.1)
@@ -160,7 +160,7 @@ module _ (n : Sheet) (rows columns : List Deal) (p : ℕ) (seated : Seated n row
   )
 
   -- the whole loop ranges
-  pub plain_spannable : Spannable board Plain s.i × Spannable board Plain s.j
+  pub plain_spannable : Spannable board None s.i × Spannable board None s.j
   plain_spannable = ((small_range I).1, (small_range J).1)
 
   -- all tasks

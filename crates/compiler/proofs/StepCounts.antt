@@ -1,5 +1,5 @@
 -- How many steps all boards take together: it does not depend on the deals. Assumes nothing.
-use Rattle.std.proofs.Common.{◌≡◌, ℕ, ◌+◌, ◌-◌, ◌*◌, ◌/◌, ◌%◌, ◌<◌, ◌≤◌, Bool, true, false, cond, ◌&&◌, List, [], ◌∷◌, map, length, sum_by, sym, refl, ap, ◌∙◌, ap₂, ⊎_elim, mul_comm, one-mul, mul-one, arith}
+use Rattle.std.proofs.Common.{◌≡◌, ℕ, ◌+◌, ◌-◌, ◌*◌, ◌/◌, ◌%◌, ◌<◌, ◌≤◌, Bool, true, false, cond, ◌&&◌, List, [], ◌∷◌, map, length, sum_by, sym, refl, ap, ◌∙◌, ap₂, ⊎_elim, mul_comm, one-mul, mul-one, arith, Option, Some, None}
 use native.Mathlib.Nat.{mul-mul-mul_comm}
 use Rattle.std.specs.List.{range_with_len, AllByRecursion}
 use Rattle.std.proofs.lemmas.List.{get_or_past}
@@ -24,10 +24,8 @@ use Rattle.sequential.proofs.Kept.{Parts}
 use Rattle.compiler.specs.declared.order.Task.{Task}
 use Rattle.compiler.specs.declared.order.Task.TheVariants.{Ship, Base, Add, Store}
 use Rattle.compiler.specs.declared.span.Owning.{Owning}
-use Rattle.compiler.specs.declared.span.SpanKind.{SpanKind}
-use Rattle.compiler.specs.declared.span.SpanKind.TheVariants.{Plain, Owned}
-use Rattle.compiler.specs.Spans.{seat, deal_in, span_of, by_rows, by_columns, moves_with}
-use Rattle.compiler.specs.Orders.{tasks_of, i_kind, j_kind, task_order, walk_order, orders_by, numbered}
+use Rattle.compiler.specs.Spans.{seat, deal_in, span_of, owning_by, moves_with}
+use Rattle.compiler.specs.Orders.{tasks_of, i_owning, j_owning, task_order, walk_order, orders_by, numbered}
 use Rattle.compiler.specs.Totals.{boards_of, order_steps, statement_steps, steps_of}
 use Rattle.compiler.specs.Laws.{AllSound}
 use Rattle.compiler.proofs.SpanValues.{SpanFits, reach_up}
@@ -57,31 +55,31 @@ abbrev plain_in : Dimension → Range → ℕ
 plain_in Rows r = r.high + 1 - r.low
 plain_in Columns r = 1
 
-abbrev part_in : Dimension → Deals → Range → SpanKind → ℕ → ℕ
-part_in v deals r Plain x = plain_in v r
-part_in v deals r (Owned o) x = cond (same_dimension v o.dimension) (owned_length (deal_in v deals o.array) r o.subscript x) 1
+abbrev part_in : Dimension → Deals → Range → Option Owning → ℕ → ℕ
+part_in v deals r None x = plain_in v r
+part_in v deals r (Some o) x = cond (same_dimension v o.dimension) (owned_length (deal_in v deals o.array) r o.subscript x) 1
 
 span_length_by : (v : Dimension) (q : ℕ) (deals : Deals) (p : ℕ) (r : Range) (t : ℕ) (s : Subscript) → let o : Owning = record { array = t; dimension = v; subscript = s } in
-    (span_of (seat q deals p) (Owned o) r).end - (span_of (seat q deals p) (Owned o) r).first ≡ part_in Rows deals r (Owned o) (p % q) * part_in Columns deals r (Owned o) (p / q)
+    (span_of (seat q deals p) (Some o) r).end - (span_of (seat q deals p) (Some o) r).first ≡ part_in Rows deals r (Some o) (p % q) * part_in Columns deals r (Some o) (p / q)
 span_length_by Rows q deals p r t s = sym (mul-one _)
 span_length_by Columns q deals p r t s = sym (one-mul _)
 
-span_length : (q : ℕ) (deals : Deals) (p : ℕ) (r : Range) (k : SpanKind) → (span_of (seat q deals p) k r).end - (span_of (seat q deals p) k r).first ≡ part_in Rows deals r k (p % q) * part_in Columns deals r k (p / q)
-span_length q deals p r Plain = sym (mul-one _)
-span_length q deals p r (Owned o) = span_length_by o.dimension q deals p r o.array o.subscript
+span_length : (q : ℕ) (deals : Deals) (p : ℕ) (r : Range) (k : Option Owning) → (span_of (seat q deals p) k r).end - (span_of (seat q deals p) k r).first ≡ part_in Rows deals r k (p % q) * part_in Columns deals r k (p / q)
+span_length q deals p r None = sym (mul-one _)
+span_length q deals p r (Some o) = span_length_by o.dimension q deals p r o.array o.subscript
 
 -- whether a span is owned in a dimension; otherwise its factor there is the same for all boards and deals
-abbrev uses : Dimension → SpanKind → Bool
-uses v Plain = false
-uses v (Owned o) = same_dimension v o.dimension
+abbrev uses : Dimension → Option Owning → Bool
+uses v None = false
+uses v (Some o) = same_dimension v o.dimension
 
-abbrev constant_in : Dimension → Range → SpanKind → ℕ
-constant_in v r Plain = plain_in v r
-constant_in v r (Owned o) = 1
+abbrev constant_in : Dimension → Range → Option Owning → ℕ
+constant_in v r None = plain_in v r
+constant_in v r (Some o) = 1
 
-part_constant : (v : Dimension) (deals : Deals) (r : Range) (k : SpanKind) (x : ℕ) → uses v k ≡ false → part_in v deals r k x ≡ constant_in v r k
-part_constant v deals r Plain x e = refl
-part_constant v deals r (Owned o) x e = cond-false (same_dimension v o.dimension) (owned_length (deal_in v deals o.array) r o.subscript x) 1 e
+part_constant : (v : Dimension) (deals : Deals) (r : Range) (k : Option Owning) (x : ℕ) → uses v k ≡ false → part_in v deals r k x ≡ constant_in v r k
+part_constant v deals r None x e = refl
+part_constant v deals r (Some o) x e = cond-false (same_dimension v o.dimension) (owned_length (deal_in v deals o.array) r o.subscript x) 1 e
 
 -- the positions that a loop range reaches, over all boards of a deal
 owned_sum : (d : Deal) (r : Range) (s : Subscript) → Sound d → 1 ≤ position s r.low → position s r.low ≤ position s r.high → position s r.high ≤ extent d
@@ -94,10 +92,10 @@ owned_sum d r s sound low up high =
     omega (arith, plus, like, counts_add_up d sound a (omega arith), counts_add_up d sound z (omega arith))
 
 -- no two spans of a task are owned in one dimension
-abbrev pub Apart : SpanKind → SpanKind → Type 0
+abbrev pub Apart : Option Owning → Option Owning → Type 0
 Apart k l = (v : Dimension) → (uses v k && uses v l) ≡ false
 
-ship_apart_by : (a : Access) (x y z w : Bool) → (x && z) ≡ false → (y && w) ≡ false → Apart (cond x (by_rows a) (cond y (by_columns a) Plain)) (cond z (by_rows a) (cond w (by_columns a) Plain))
+ship_apart_by : (a : Access) (x y z w : Bool) → (x && z) ≡ false → (y && w) ≡ false → Apart (cond x (Some (owning_by Rows a)) (cond y (Some (owning_by Columns a)) None)) (cond z (Some (owning_by Rows a)) (cond w (Some (owning_by Columns a)) None))
 ship_apart_by a true y true w p q v = absurd (both_ways true p refl)
 ship_apart_by a true y false true p q Rows = refl
 ship_apart_by a true y false true p q Columns = refl
@@ -122,11 +120,11 @@ one_variable s = ⊎_elim (λ e. absurd (both e)) (λ e. e) (cases_Bool (moves_w
         let z : ◌≡◌ {A = ℕ} 0 1 = cc in
         omega arith
 
-target_apart : (a : Access) → Apart (by_rows a) (by_columns a)
+target_apart : (a : Access) → Apart (Some (owning_by Rows a)) (Some (owning_by Columns a))
 target_apart a Rows = refl
 target_apart a Columns = refl
 
-pub spans_apart : (s : Said) (t : Task) → Apart (i_kind s t) (j_kind s t)
+pub spans_apart : (s : Said) (t : Task) → Apart (i_owning s t) (j_owning s t)
 spans_apart s (Ship r) =
     ship_apart_by r.source (moves_with I r.source.row) (moves_with I r.source.column) (moves_with J r.source.row) (moves_with J r.source.column) (one_variable r.source.row) (one_variable r.source.column)
 spans_apart s Base = target_apart s.put
@@ -143,17 +141,17 @@ boards_in Rows g = g.rows
 boards_in Columns g = g.columns
 
 -- the sum of a span's factors over the boards of a dimension
-abbrev part_total : Dimension → Grid → Range → SpanKind → ℕ
-part_total v g r Plain = sum_over (boards_in v g) (λ _. plain_in v r)
-part_total v g r (Owned o) = cond (same_dimension v o.dimension) (position o.subscript r.high + 1 - position o.subscript r.low) (sum_over (boards_in v g) (λ _. 1))
+abbrev part_total : Dimension → Grid → Range → Option Owning → ℕ
+part_total v g r None = sum_over (boards_in v g) (λ _. plain_in v r)
+part_total v g r (Some o) = cond (same_dimension v o.dimension) (position o.subscript r.high + 1 - position o.subscript r.low) (sum_over (boards_in v g) (λ _. 1))
 
 -- the sum of the products of two spans' factors, not both owned there
-abbrev pair_total : Dimension → Grid → Range → SpanKind → Range → SpanKind → ℕ
+abbrev pair_total : Dimension → Grid → Range → Option Owning → Range → Option Owning → ℕ
 pair_total v g r k r' l = cond (uses v k) (part_total v g r k * constant_in v r' l) (part_total v g r' l * constant_in v r k)
 
 -- the steps of all boards for a task, for a statement, for all sweeps
 abbrev pub task_total : Grid → Said → Task → ℕ
-task_total g s t = pair_total Rows g s.i (i_kind s t) s.j (j_kind s t) * pair_total Columns g s.i (i_kind s t) s.j (j_kind s t)
+task_total g s t = pair_total Rows g s.i (i_owning s t) s.j (j_owning s t) * pair_total Columns g s.i (i_owning s t) s.j (j_owning s t)
 
 abbrev walk_total : Grid → Said → ℕ
 walk_total g s = sum_by (λ p. (s.i.high + 1 - s.i.low) * (s.j.high + 1 - s.j.low) * length (tasks_of s)) (range_with_len 0 (boards_of g))
@@ -189,29 +187,29 @@ module _ (g : Grid) (arrays : List Array) (deals : Deals) (fit : Fits g arrays d
   deal_sound Rows t h = ((sound t (omega (arith, fit.0)) (omega (arith, fit.1))).0, (fit.2 t h).0.0)
   deal_sound Columns t h = ((sound t (omega (arith, fit.0)) (omega (arith, fit.1))).1, (fit.2 t h).1.0)
 
-  part_sum : (v : Dimension) (p : ℕ) (r : Range) (k : SpanKind) → SpanFits (seat g.rows deals p) r k → sum_over (boards_in v g) (part_in v deals r k) ≡ part_total v g r k
-  part_sum v p r Plain fits = refl
-  part_sum v p r (Owned o) fits = ⊎_elim owned other (cases_Bool (same_dimension v o.dimension))
+  part_sum : (v : Dimension) (p : ℕ) (r : Range) (k : Option Owning) → SpanFits (seat g.rows deals p) r k → sum_over (boards_in v g) (part_in v deals r k) ≡ part_total v g r k
+  part_sum v p r None fits = refl
+  part_sum v p r (Some o) fits = ⊎_elim owned other (cases_Bool (same_dimension v o.dimension))
     where
-      owned : same_dimension v o.dimension ≡ true → sum_over (boards_in v g) (part_in v deals r (Owned o)) ≡ part_total v g r (Owned o)
+      owned : same_dimension v o.dimension ≡ true → sum_over (boards_in v g) (part_in v deals r (Some o)) ≡ part_total v g r (Some o)
       owned e =
           let d : Deal = deal_in v deals o.array in
           let high : position o.subscript r.high ≤ extent d = rw (← same_dimension_lem v o.dimension e) fits.high in
           let up = reach_up (seat g.rows deals p) r o fits in
           let there = array_there v o.array (position o.subscript r.high) (omega (arith, fits.low)) high in
           let s = deal_sound v o.array there in
-          sum_like (part_in v deals r (Owned o)) (owned_length d r o.subscript) (boards_in v g) (λ x h. cond-true (same_dimension v o.dimension) (owned_length d r o.subscript x) 1 e)
+          sum_like (part_in v deals r (Some o)) (owned_length d r o.subscript) (boards_in v g) (λ x h. cond-true (same_dimension v o.dimension) (owned_length d r o.subscript x) 1 e)
           ∙ ap (λ n. sum_over n (owned_length d r o.subscript)) (sym s.1)
           ∙ owned_sum d r o.subscript s.0 fits.low up high
           ∙ sym (cond-true (same_dimension v o.dimension) (position o.subscript r.high + 1 - position o.subscript r.low) (sum_over (boards_in v g) (λ _. 1)) e)
 
-      other : same_dimension v o.dimension ≡ false → sum_over (boards_in v g) (part_in v deals r (Owned o)) ≡ part_total v g r (Owned o)
+      other : same_dimension v o.dimension ≡ false → sum_over (boards_in v g) (part_in v deals r (Some o)) ≡ part_total v g r (Some o)
       other e =
-          sum_like (part_in v deals r (Owned o)) (λ _. 1) (boards_in v g) (λ x h. part_constant v deals r (Owned o) x e)
+          sum_like (part_in v deals r (Some o)) (λ _. 1) (boards_in v g) (λ x h. part_constant v deals r (Some o) x e)
           ∙ sym (cond-false (same_dimension v o.dimension) (position o.subscript r.high + 1 - position o.subscript r.low) (sum_over (boards_in v g) (λ _. 1)) e)
 
   -- of two spans that are not owned in one dimension
-  module _ (p : ℕ) (r : Range) (k : SpanKind) (r' : Range) (l : SpanKind) (fits : SpanFits (seat g.rows deals p) r k) (fits' : SpanFits (seat g.rows deals p) r' l) (apart : Apart k l) where
+  module _ (p : ℕ) (r : Range) (k : Option Owning) (r' : Range) (l : Option Owning) (fits : SpanFits (seat g.rows deals p) r k) (fits' : SpanFits (seat g.rows deals p) r' l) (apart : Apart k l) where
     pair_sum : (v : Dimension) → sum_over (boards_in v g) (λ x. part_in v deals r k x * part_in v deals r' l x) ≡ pair_total v g r k r' l
     pair_sum v = ⊎_elim first second (cases_Bool (uses v k))
       where
@@ -243,10 +241,10 @@ module _ (g : Grid) (arrays : List Array) (deals : Deals) (fit : Fits g arrays d
   module _ (n : ℕ) (s : Said) (kept : Parts arrays s) where
     task_total_lem : (t : Task) → TaskKept arrays s t → sum_by (λ p. order_steps (seat g.rows deals p) s (task_order (seat g.rows deals p) n s t)) (range_with_len 0 (boards_of g)) ≡ task_total g s t
     task_total_lem t task =
-        let cells : ℕ → ℕ = λ p. ((span_of (seat g.rows deals p) (i_kind s t) s.i).end - (span_of (seat g.rows deals p) (i_kind s t) s.i).first) * ((span_of (seat g.rows deals p) (j_kind s t) s.j).end - (span_of (seat g.rows deals p) (j_kind s t) s.j).first) in
+        let cells : ℕ → ℕ = λ p. ((span_of (seat g.rows deals p) (i_owning s t) s.i).end - (span_of (seat g.rows deals p) (i_owning s t) s.i).first) * ((span_of (seat g.rows deals p) (j_owning s t) s.j).end - (span_of (seat g.rows deals p) (j_owning s t) s.j).first) in
         sums_alike (λ p. order_steps (seat g.rows deals p) s (task_order (seat g.rows deals p) n s t)) cells (range_with_len 0 (boards_of g)) (λ p. mul-one _ ∙ length_cells (seat g.rows deals p) s (task_order (seat g.rows deals p) n s t))
         ∙ sums_below cells (boards_of g)
-        ∙ pair_total_lem 0 s.i (i_kind s t) s.j (j_kind s t) (i_fits g arrays deals fit sound s kept 0 t task) (j_fits g arrays deals fit sound s kept 0 t task) (spans_apart s t)
+        ∙ pair_total_lem 0 s.i (i_owning s t) s.j (j_owning s t) (i_fits g arrays deals fit sound s kept 0 t task) (j_fits g arrays deals fit sound s kept 0 t task) (spans_apart s t)
 
     mode_total : (m : Mode) → sum_by (λ p. sum_by (order_steps (seat g.rows deals p) s) (orders_by m (seat g.rows deals p) n s)) (range_with_len 0 (boards_of g)) ≡ total_by m g s
     mode_total AllTogether =

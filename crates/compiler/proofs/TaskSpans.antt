@@ -1,6 +1,6 @@
 -- The spans of a task: what owns them reaches only positions that are there, and a board that has a part in a task owns
 -- both loop values. Assumes nothing.
-use Rattle.std.proofs.Common.{◌≡◌, ℕ, ◌+◌, ◌-◌, ◌*◌, ◌/◌, ◌%◌, ◌<◌, ◌≤◌, true, cond, not, ◌&&◌, leb, List, [], ◌∷◌, ◌++◌, map, length, get_or, sym, refl, ap, ◌∙◌, ⊎_elim, mul_comm, arith}
+use Rattle.std.proofs.Common.{◌≡◌, ℕ, ◌+◌, ◌-◌, ◌*◌, ◌/◌, ◌%◌, ◌<◌, ◌≤◌, true, cond, not, ◌&&◌, leb, List, [], ◌∷◌, ◌++◌, map, length, get_or, sym, refl, ap, ◌∙◌, ⊎_elim, mul_comm, arith, Some, None}
 use Rattle.std.specs.List.{AllByRecursion}
 use Rattle.std.proofs.lemmas.Nat.{div-mul-add, mod-mul-add, mul-add-lt}
 use Rattle.std.proofs.ByRecursion.{All-append, All-map}
@@ -21,11 +21,11 @@ use Rattle.sections.specs.Sections.{Deals, Fits, rows_of, columns_of}
 use Rattle.sequential.specs.Iterations.{variable_in, position_in}
 use Rattle.sequential.specs.declared.iteration.Iteration.{Iteration}
 use Rattle.sequential.proofs.Kept.{Parts, access_parts, factor_of, range_of_lem}
+use Rattle.dealing.specs.declared.dimension.Dimension.TheVariants.{Rows, Columns}
 use Rattle.compiler.specs.declared.order.Task.{Task}
 use Rattle.compiler.specs.declared.order.Task.TheVariants.{Ship, Base, Add, Store}
-use Rattle.compiler.specs.declared.span.SpanKind.TheVariants.{Plain}
-use Rattle.compiler.specs.Spans.{seat, owns_value, by_rows, by_columns, same_variable, moves_with, ship_kind}
-use Rattle.compiler.specs.Orders.{tasks_of, i_kind, j_kind}
+use Rattle.compiler.specs.Spans.{seat, owns_value, owning_by, same_variable, moves_with, ship_owning}
+use Rattle.compiler.specs.Orders.{tasks_of, i_owning, j_owning}
 use Rattle.compiler.specs.Cells.{board_at, owns_at, takes_part}
 use Rattle.compiler.specs.Laws.{AllSound}
 use Rattle.compiler.proofs.SpanValues.{SpanFits, factor_rises}
@@ -117,7 +117,7 @@ module _ (g : Grid) (arrays : List Array) (deals : Deals) (fit : Fits g arrays d
 
   -- spans by the rows and by the columns of an access that is kept
   pub rows_fit : (p least : ℕ) (i j : Range) (a : Access) (v : Variable) → access_kept least arrays i j a ≡ true → a.row.variable ≡ v → 1 ≤ a.row.factor → (range_of v i j).low ≤ (range_of v i j).high
-      → SpanFits (seat g.rows deals p) (range_of v i j) (by_rows a)
+      → SpanFits (seat g.rows deals p) (range_of v i j) (Some (owning_by Rows a))
   rows_fit p least i j a v k by factor some =
       let parts = access_parts least arrays i j a k in
       let low = position a.row (range_of v i j).low in
@@ -129,7 +129,7 @@ module _ (g : Grid) (arrays : List Array) (deals : Deals) (fit : Fits g arrays d
       record { some = some; rises = factor_rises a.row (range_of v i j).low factor first; low = first; high = omega (arith, leb-true high size ends.1, (fit.2 a.array parts.there).0.1) }
 
   pub columns_fit : (p least : ℕ) (i j : Range) (a : Access) (v : Variable) → access_kept least arrays i j a ≡ true → a.column.variable ≡ v → 1 ≤ a.column.factor → (range_of v i j).low ≤ (range_of v i j).high
-      → SpanFits (seat g.rows deals p) (range_of v i j) (by_columns a)
+      → SpanFits (seat g.rows deals p) (range_of v i j) (Some (owning_by Columns a))
   columns_fit p least i j a v k by factor some =
       let parts = access_parts least arrays i j a k in
       let low = position a.column (range_of v i j).low in
@@ -142,26 +142,26 @@ module _ (g : Grid) (arrays : List Array) (deals : Deals) (fit : Fits g arrays d
 
   -- the ship span of a variable
   pub ship_fits : (p least : ℕ) (i j : Range) (a : Access) (v : Variable) → access_kept least arrays i j a ≡ true → (range_of v i j).low ≤ (range_of v i j).high
-      → SpanFits (seat g.rows deals p) (range_of v i j) (ship_kind v a)
+      → SpanFits (seat g.rows deals p) (range_of v i j) (ship_owning v a)
   ship_fits p least i j a v k some =
-      cond_both (moves_with v a.row) (by_rows a) (cond (moves_with v a.column) (by_columns a) Plain) (SpanFits (seat g.rows deals p) (range_of v i j))
+      cond_both (moves_with v a.row) (Some (owning_by Rows a)) (cond (moves_with v a.column) (Some (owning_by Columns a)) None) (SpanFits (seat g.rows deals p) (range_of v i j))
       (λ m. let by = moves_by v a.row m in rows_fit p least i j a v k by.0 by.1 some)
-      (λ _. cond_both (moves_with v a.column) (by_columns a) Plain (SpanFits (seat g.rows deals p) (range_of v i j)) (λ m. let by = moves_by v a.column m in columns_fit p least i j a v k by.0 by.1 some) (λ _. tt))
+      (λ _. cond_both (moves_with v a.column) (Some (owning_by Columns a)) None (SpanFits (seat g.rows deals p) (range_of v i j)) (λ m. let by = moves_by v a.column m in columns_fit p least i j a v k by.0 by.1 some) (λ _. tt))
 
   -- the board owns the loop values of an iteration whose element it owns
-  pub rows_owned : (p : ℕ) (a : Access) (e : Iteration) (v : Variable) → a.array < length arrays → a.row.variable ≡ v → owns_at (seat g.rows deals p) a e ≡ true → owns_value (seat g.rows deals p) (by_rows a) (variable_in v e) ≡ true
+  pub rows_owned : (p : ℕ) (a : Access) (e : Iteration) (v : Variable) → a.array < length arrays → a.row.variable ≡ v → owns_at (seat g.rows deals p) a e ≡ true → owns_value (seat g.rows deals p) (Some (owning_by Rows a)) (variable_in v e) ≡ true
   rows_owned p a e v h by own =
       eq-eqb (owner (rows_of deals a.array) (position a.row (variable_in v e))) (p % g.rows) (ap (λ w. owner (rows_of deals a.array) (position a.row (variable_in w e))) (sym by) ∙ (owners_split p a e h own).0)
 
-  pub columns_owned : (p : ℕ) (a : Access) (e : Iteration) (v : Variable) → a.array < length arrays → a.column.variable ≡ v → owns_at (seat g.rows deals p) a e ≡ true → owns_value (seat g.rows deals p) (by_columns a) (variable_in v e) ≡ true
+  pub columns_owned : (p : ℕ) (a : Access) (e : Iteration) (v : Variable) → a.array < length arrays → a.column.variable ≡ v → owns_at (seat g.rows deals p) a e ≡ true → owns_value (seat g.rows deals p) (Some (owning_by Columns a)) (variable_in v e) ≡ true
   columns_owned p a e v h by own =
       eq-eqb (owner (columns_of deals a.array) (position a.column (variable_in v e))) (p / g.rows) (ap (λ w. owner (columns_of deals a.array) (position a.column (variable_in w e))) (sym by) ∙ (owners_split p a e h own).1)
 
-  pub ship_owned : (p : ℕ) (a : Access) (e : Iteration) (v : Variable) → a.array < length arrays → owns_at (seat g.rows deals p) a e ≡ true → owns_value (seat g.rows deals p) (ship_kind v a) (variable_in v e) ≡ true
+  pub ship_owned : (p : ℕ) (a : Access) (e : Iteration) (v : Variable) → a.array < length arrays → owns_at (seat g.rows deals p) a e ≡ true → owns_value (seat g.rows deals p) (ship_owning v a) (variable_in v e) ≡ true
   ship_owned p a e v h own =
-      cond_both (moves_with v a.row) (by_rows a) (cond (moves_with v a.column) (by_columns a) Plain) (λ k. owns_value (seat g.rows deals p) k (variable_in v e) ≡ true)
+      cond_both (moves_with v a.row) (Some (owning_by Rows a)) (cond (moves_with v a.column) (Some (owning_by Columns a)) None) (λ k. owns_value (seat g.rows deals p) k (variable_in v e) ≡ true)
       (λ m. rows_owned p a e v h (moves_by v a.row m).0 own)
-      (λ _. cond_both (moves_with v a.column) (by_columns a) Plain (λ k. owns_value (seat g.rows deals p) k (variable_in v e) ≡ true) (λ m. columns_owned p a e v h (moves_by v a.column m).0 own) (λ _. refl))
+      (λ _. cond_both (moves_with v a.column) (Some (owning_by Columns a)) None (λ k. owns_value (seat g.rows deals p) k (variable_in v e) ≡ true) (λ m. columns_owned p a e v h (moves_by v a.column m).0 own) (λ _. refl))
 
   -- of a statement that keeps its ranges
   module _ (s : Said) (kept : Parts arrays s) where
@@ -169,31 +169,31 @@ module _ (g : Grid) (arrays : List Array) (deals : Deals) (fit : Fits g arrays d
     put_there = (access_parts 1 arrays s.i s.j s.put kept.put).there
 
     -- its spans by the target
-    by_put_rows : (p : ℕ) → SpanFits (seat g.rows deals p) s.i (by_rows s.put)
+    by_put_rows : (p : ℕ) → SpanFits (seat g.rows deals p) s.i (Some (owning_by Rows s.put))
     by_put_rows p =
         rows_fit p 1 s.i s.j s.put I kept.put (is_i_lem s.put.row.variable kept.by_i) (factor_of 1 s.put.row (access_parts 1 arrays s.i s.j s.put kept.put).row).0 (range_of_lem s.i kept.i).0
 
-    by_put_columns : (p : ℕ) → SpanFits (seat g.rows deals p) s.j (by_columns s.put)
+    by_put_columns : (p : ℕ) → SpanFits (seat g.rows deals p) s.j (Some (owning_by Columns s.put))
     by_put_columns p =
         columns_fit p 1 s.i s.j s.put J kept.put (is_j s.put.column.variable kept.by_j) (factor_of 1 s.put.column (access_parts 1 arrays s.i s.j s.put kept.put).column).0 (range_of_lem s.j kept.j).0
 
     -- the spans of every task fit
-    pub i_fits : (p : ℕ) (t : Task) → TaskKept arrays s t → SpanFits (seat g.rows deals p) s.i (i_kind s t)
+    pub i_fits : (p : ℕ) (t : Task) → TaskKept arrays s t → SpanFits (seat g.rows deals p) s.i (i_owning s t)
     i_fits p (Ship r) k = ship_fits p 0 s.i s.j r.source I k (range_of_lem s.i kept.i).0
     i_fits p Base k = by_put_rows p
     i_fits p (Add r) k = by_put_rows p
     i_fits p Store k = by_put_rows p
 
-    pub j_fits : (p : ℕ) (t : Task) → TaskKept arrays s t → SpanFits (seat g.rows deals p) s.j (j_kind s t)
+    pub j_fits : (p : ℕ) (t : Task) → TaskKept arrays s t → SpanFits (seat g.rows deals p) s.j (j_owning s t)
     j_fits p (Ship r) k = ship_fits p 0 s.i s.j r.source J k (range_of_lem s.j kept.j).0
     j_fits p Base k = by_put_columns p
     j_fits p (Add r) k = by_put_columns p
     j_fits p Store k = by_put_columns p
 
-    put_i : (p : ℕ) (e : Iteration) → owns_at (seat g.rows deals p) s.put e ≡ true → owns_value (seat g.rows deals p) (by_rows s.put) e.i ≡ true
+    put_i : (p : ℕ) (e : Iteration) → owns_at (seat g.rows deals p) s.put e ≡ true → owns_value (seat g.rows deals p) (Some (owning_by Rows s.put)) e.i ≡ true
     put_i p e own = rows_owned p s.put e I put_there (is_i_lem s.put.row.variable kept.by_i) own
 
-    put_j : (p : ℕ) (e : Iteration) → owns_at (seat g.rows deals p) s.put e ≡ true → owns_value (seat g.rows deals p) (by_columns s.put) e.j ≡ true
+    put_j : (p : ℕ) (e : Iteration) → owns_at (seat g.rows deals p) s.put e ≡ true → owns_value (seat g.rows deals p) (Some (owning_by Columns s.put)) e.j ≡ true
     put_j p e own = columns_owned p s.put e J put_there (is_j s.put.column.variable kept.by_j) own
 
     source_there : (r : ReadTerm) → TaskKept arrays s (Ship r) → r.source.array < length arrays
@@ -203,13 +203,13 @@ module _ (g : Grid) (arrays : List Array) (deals : Deals) (fit : Fits g arrays d
     shipping p r e part = (and_parts (owns_at (seat g.rows deals p) r.source e) (not (owns_at (seat g.rows deals p) s.put e)) part).0
 
     -- a board that has a part in an iteration owns both its loop values
-    pub part_owns_i : (p : ℕ) (t : Task) (e : Iteration) → TaskKept arrays s t → takes_part (seat g.rows deals p) s t e ≡ true → owns_value (seat g.rows deals p) (i_kind s t) e.i ≡ true
+    pub part_owns_i : (p : ℕ) (t : Task) (e : Iteration) → TaskKept arrays s t → takes_part (seat g.rows deals p) s t e ≡ true → owns_value (seat g.rows deals p) (i_owning s t) e.i ≡ true
     part_owns_i p (Ship r) e k part = ship_owned p r.source e I (source_there r k) (shipping p r e part)
     part_owns_i p Base e k part = put_i p e part
     part_owns_i p (Add r) e k part = put_i p e part
     part_owns_i p Store e k part = put_i p e part
 
-    pub part_owns_j : (p : ℕ) (t : Task) (e : Iteration) → TaskKept arrays s t → takes_part (seat g.rows deals p) s t e ≡ true → owns_value (seat g.rows deals p) (j_kind s t) e.j ≡ true
+    pub part_owns_j : (p : ℕ) (t : Task) (e : Iteration) → TaskKept arrays s t → takes_part (seat g.rows deals p) s t e ≡ true → owns_value (seat g.rows deals p) (j_owning s t) e.j ≡ true
     part_owns_j p (Ship r) e k part = ship_owned p r.source e J (source_there r k) (shipping p r e part)
     part_owns_j p Base e k part = put_j p e part
     part_owns_j p (Add r) e k part = put_j p e part

@@ -1,5 +1,5 @@
 -- What every program keeps: as many boards as the grid has, and orders for statements that are there. Assumes nothing.
-use Rattle.std.specs.Prelude.{ℕ, ◌+◌, Bool, true, ◌&&◌, List, [], length, ◌==◌, nat_le, nat_lt, slice_index_or}
+use Rattle.std.specs.Prelude.{ℕ, ◌+◌, Bool, true, ◌&&◌, List, [], length, ◌==◌, nat_le, nat_lt, slice_index_or, Option, Some, None}
 use Rattle.nest.specs.Terms.{Said, Sheet}
 use Rattle.nest.specs.Sound.{each, subscript_kept, read_kept}
 use Rattle.nest.specs.declared.terms.Array.{Array}
@@ -7,14 +7,13 @@ use Rattle.nest.specs.declared.terms.Mode.TheVariants.{All}
 use Rattle.nest.specs.declared.terms.Offset.TheVariants.{Plus}
 use Rattle.nest.specs.declared.terms.Range.{Range}
 use Rattle.nest.specs.declared.terms.Variable.TheVariants.{I, J}
+use Rattle.compiler.specs.declared.span.Owning.{Owning}
 use Rattle.compiler.specs.declared.order.Order.{Order}
 use Rattle.compiler.specs.declared.order.Task.{Task}
 use Rattle.compiler.specs.declared.order.Task.TheVariants.{Ship, Base, Add, Store}
 use Rattle.compiler.specs.declared.order.Work.{Work}
 use Rattle.compiler.specs.declared.order.Work.TheVariants.{One, Walk}
 use Rattle.compiler.specs.declared.span.Span.{Span}
-use Rattle.compiler.specs.declared.span.SpanKind.{SpanKind}
-use Rattle.compiler.specs.declared.span.SpanKind.TheVariants.{Plain, Owned}
 use Rattle.compiler.specs.Compiled.{OneBoard}
 use Rattle.compiler.specs.Totals.{boards_of}
 
@@ -38,12 +37,12 @@ abbrev pub statement_at : List Said → ℕ → Said
 statement_at statements k = slice_index_or statements k no_statement
 
 -- a plain span stays inside its loop range; an owned one goes by an array that is there and a subscript that moves
-abbrev pub kind_kept : List Array → Range → ℕ → ℕ → SpanKind → Bool
-kind_kept arrays r first end Plain = nat_le r.low first && nat_le end (r.high + 1)
-kind_kept arrays r first end (Owned o) = nat_lt o.array (length arrays) && subscript_kept 1 o.subscript
+abbrev pub owning_kept : List Array → Range → ℕ → ℕ → Option Owning → Bool
+owning_kept arrays r first end None = nat_le r.low first && nat_le end (r.high + 1)
+owning_kept arrays r first end (Some o) = nat_lt o.array (length arrays) && subscript_kept 1 o.subscript
 
 abbrev pub span_kept : List Array → Range → Span → Bool
-span_kept arrays r s = kind_kept arrays r s.first s.end s.kind
+span_kept arrays r s = owning_kept arrays r s.first s.end s.owning
 
 -- a ship or an add is of a read that stays inside its array
 abbrev pub task_kept : List Array → Said → Task → Bool

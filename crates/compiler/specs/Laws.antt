@@ -10,7 +10,7 @@ use Rattle.sequential.specs.declared.iteration.Iteration.{Iteration}
 use Rattle.compiler.specs.declared.order.Task.{Task}
 use Rattle.compiler.specs.declared.order.Task.TheVariants.{Ship, Add}
 use Rattle.compiler.specs.Spans.{seat, span_of, span_values, owns_value}
-use Rattle.compiler.specs.Orders.{tasks_of, i_kind, j_kind}
+use Rattle.compiler.specs.Orders.{tasks_of, i_owning, j_owning}
 use Rattle.compiler.specs.Cells.{present, board_at, takes_part, parts_of, shipped_to, taken_from}
 use Rattle.compiler.specs.Totals.{boards_of, steps_of}
 
@@ -22,10 +22,10 @@ AllSound deals = (t : ℕ) → t < length deals.rows → t < length deals.column
 abbrev pub SpansAreOwnedValues : Sheet → Deals → Type 0
 SpansAreOwnedValues n deals =
     (p : ℕ) (s : Said) (t : Task) → p < boards_of n.grid → In s n.statements → In t (tasks_of s)
-    → (present (span_values (seat n.grid.rows deals p) s.i (span_of (seat n.grid.rows deals p) (i_kind s t) s.i))
-    ≡ filter (owns_value (seat n.grid.rows deals p) (i_kind s t)) (values_of s.i))
-    × (present (span_values (seat n.grid.rows deals p) s.j (span_of (seat n.grid.rows deals p) (j_kind s t) s.j))
-    ≡ filter (owns_value (seat n.grid.rows deals p) (j_kind s t)) (values_of s.j))
+    → (present (span_values (seat n.grid.rows deals p) s.i (span_of (seat n.grid.rows deals p) (i_owning s t) s.i))
+    ≡ filter (owns_value (seat n.grid.rows deals p) (i_owning s t)) (values_of s.i))
+    × (present (span_values (seat n.grid.rows deals p) s.j (span_of (seat n.grid.rows deals p) (j_owning s t) s.j))
+    ≡ filter (owns_value (seat n.grid.rows deals p) (j_owning s t)) (values_of s.j))
 
 -- a board comes to its part of a task in iteration order, leaving out nothing and doing nothing twice: its parts are all
 -- iterations filtered by whose part it is. So a base, an add and a store of each iteration stand on the owner of its target

@@ -1,6 +1,6 @@
 -- When a board's orders can be made: every number stays small, and every question to a map has an answer. Only the private
 -- code goes by these. Assumes nothing.
-use Rattle.std.specs.Prelude.{◌≡◌, ℕ, ◌+◌, ◌<◌, ◌≤◌, true, List, length}
+use Rattle.std.specs.Prelude.{◌≡◌, ℕ, ◌+◌, ◌<◌, ◌≤◌, true, List, length, Option, Some, None}
 use Rattle.std.specs.List.{AllByRecursion}
 use Rattle.nest.specs.Sound.{statement_kept}
 use Rattle.nest.specs.Terms.{far, position, Said, Sheet}
@@ -10,10 +10,8 @@ use Rattle.owner_map.specs.Meaning.{Deal, Board, Bound, below}
 use Rattle.sections.specs.Sections.{Fits, dealt}
 use Rattle.compiler.specs.declared.order.Task.{Task}
 use Rattle.compiler.specs.declared.span.Owning.{Owning}
-use Rattle.compiler.specs.declared.span.SpanKind.{SpanKind}
-use Rattle.compiler.specs.declared.span.SpanKind.TheVariants.{Plain, Owned}
 use Rattle.compiler.specs.Spans.{Seat, seat, deal_for, self_for}
-use Rattle.compiler.specs.Orders.{i_kind, j_kind}
+use Rattle.compiler.specs.Orders.{i_owning, j_owning}
 use Rattle.compiler.specs.Totals.{boards_of}
 
 -- a board of a sheet, from what the maps of its arrays mean
@@ -48,14 +46,14 @@ Reachable b o r =
     SmallAt o.subscript r.low × SmallAt o.subscript r.high
     × Countable b o (position o.subscript r.low) (position o.subscript r.high + 1)
 
--- a span of the kind can be made over the loop range
-abbrev pub Spannable : Seat → SpanKind → Range → Type 0
-Spannable b Plain r = r.high ≤ 32
-Spannable b (Owned o) r = Reachable b o r
+-- a span that is owned so, or a plain one, can be made over the loop range
+abbrev pub Spannable : Seat → Option Owning → Range → Type 0
+Spannable b None r = r.high ≤ 32
+Spannable b (Some o) r = Reachable b o r
 
 -- both spans of a task can be made
 abbrev pub Orderable : Seat → Said → Task → Type 0
-Orderable b s t = Spannable b (i_kind s t) s.i × Spannable b (j_kind s t) s.j
+Orderable b s t = Spannable b (i_owning s t) s.i × Spannable b (j_owning s t) s.j
 
 -- so can those of every task of a list
 abbrev pub AllOrderable : Seat → Said → List Task → Type 0

@@ -15,8 +15,6 @@ use Rattle.sections.specs.Sections.{Deals, rows_of, columns_of}
 use Rattle.sequential.specs.Iterations.{values_of}
 use Rattle.compiler.specs.declared.span.Owning.{Owning}
 use Rattle.compiler.specs.declared.span.Span.{Span}
-use Rattle.compiler.specs.declared.span.SpanKind.{SpanKind}
-use Rattle.compiler.specs.declared.span.SpanKind.TheVariants.{Plain, Owned}
 
 -- a board of a nest whose arrays are dealt out: the grid's rows, the deals, the board's number
 pub record Seat : Type 0 where
@@ -43,12 +41,12 @@ deal_for b o = deal_in o.dimension b.deals o.array
 abbrev pub self_for : Seat → Owning → ℕ
 self_for b o = coordinate o.dimension b.grid_rows b.board
 
--- the span of a kind over a loop range: a plain one has the loop values; an owned one has the board's ranks, from the
--- number of its positions below the first that the loop reaches, up to the number below one past the last
-abbrev pub span_of : Seat → SpanKind → Range → Span
-span_of b Plain r = record { kind = Plain; first = r.low; end = r.high + 1 }
-span_of b (Owned o) r = record {
-  kind = Owned o;
+-- the span over a loop range: a plain one, which nothing owns, has the loop values; an owned one has the board's ranks, from
+-- the number of its positions below the first that the loop reaches, up to the number below one past the last
+abbrev pub span_of : Seat → Option Owning → Range → Span
+span_of b None r = record { owning = None; first = r.low; end = r.high + 1 }
+span_of b (Some o) r = record {
+  owning = Some o;
   first = below (deal_for b o) (self_for b o) (position o.subscript r.low);
   end = below (deal_for b o) (self_for b o) (position o.subscript r.high + 1);
 }
@@ -68,25 +66,26 @@ value_at s r None = None
 value_at s r (Some x) = value_to s x (values_of r)
 
 -- the loop value at a number of a span over a loop range; without one the cell is idle
-abbrev pub value_in : Seat → Range → SpanKind → ℕ → Option ℕ
-value_in b r Plain n = Some n
-value_in b r (Owned o) n = value_at o.subscript r (position_of (deal_for b o) (self_for b o) n)
+abbrev pub value_in : Seat → Range → Option Owning → ℕ → Option ℕ
+value_in b r None n = Some n
+value_in b r (Some o) n = value_at o.subscript r (position_of (deal_for b o) (self_for b o) n)
 
 -- the loop values of a span, one for each of its numbers
 abbrev pub span_values : Seat → Range → Span → List (Option ℕ)
-span_values b r s = map (value_in b r s.kind) (numbers_of s)
+span_values b r s = map (value_in b r s.owning) (numbers_of s)
 
 -- whether the board owns the position that a loop value reaches; a plain span asks nothing
-abbrev pub owns_value : Seat → SpanKind → ℕ → Bool
-owns_value b Plain v = true
-owns_value b (Owned o) v = (owner (deal_for b o) (position o.subscript v)) == self_for b o
+abbrev pub owns_value : Seat → Option Owning → ℕ → Bool
+owns_value b None v = true
+owns_value b (Some o) v = (owner (deal_for b o) (position o.subscript v)) == self_for b o
 
--- by the rows of an access, by its columns
-abbrev pub by_rows : Access → SpanKind
-by_rows a = Owned (record { array = a.array; dimension = Rows; subscript = a.row })
+-- the subscript of an access in a dimension, and what owns a span by it
+abbrev pub subscript_in : Dimension → Access → Subscript
+subscript_in Rows a = a.row
+subscript_in Columns a = a.column
 
-abbrev pub by_columns : Access → SpanKind
-by_columns a = Owned (record { array = a.array; dimension = Columns; subscript = a.column })
+abbrev pub owning_by : Dimension → Access → Owning
+owning_by d a = record { array = a.array; dimension = d; subscript = subscript_in d a }
 
 abbrev pub same_variable : Variable → Variable → Bool
 same_variable I I = true
@@ -99,5 +98,5 @@ abbrev pub moves_with : Variable → Subscript → Bool
 moves_with v s = same_variable v s.variable && nat_le 1 s.factor
 
 -- what owns the ship span of a variable: the rows of the read if they move with it, else its columns, else nothing
-abbrev pub ship_kind : Variable → Access → SpanKind
-ship_kind v a = cond (moves_with v a.row) (by_rows a) (cond (moves_with v a.column) (by_columns a) Plain)
+abbrev pub ship_owning : Variable → Access → Option Owning
+ship_owning v a = cond (moves_with v a.row) (Some (owning_by Rows a)) (cond (moves_with v a.column) (Some (owning_by Columns a)) None)

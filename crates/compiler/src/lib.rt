@@ -4,7 +4,7 @@
 //! - `program`, `access`: a program, and what it tells of itself
 //! - `parts`, `order`, `span`: what a program has for each board and each statement
 //! - `refusal`: why a nest is not compiled
-//! - `view`, `boards`, `ordering`, `tasks`, `kinds`, `spans`: the orders of each board
+//! - `view`, `boards`, `ordering`, `tasks`, `owning`, `spans`: the orders of each board
 //! - `steps`: the steps of a board, from its orders
 //! - `owners`, `positions`: the board that owns the element of an access
 //! - `letters`, `depth`, `letter_totals`: the letters by pair, and the depth that the post must have
@@ -17,12 +17,12 @@ mod boards;
 pub mod compile;
 mod copying;
 mod depth;
-mod kinds;
 mod letter_totals;
 mod letters;
 pub mod order;
 mod ordering;
 mod owners;
+mod owning;
 pub mod parts;
 mod positions;
 pub mod program;

@@ -16,6 +16,7 @@ pub enum Task {
 }
 
 /// What is done in each cell of an order.
+// Kept: not an Option of a task, since None would not say that all tasks are done.
 #[derive(Clone, Copy)]
 pub enum Work {
     /// One task, in one step.

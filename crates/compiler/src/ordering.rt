@@ -1,14 +1,12 @@
 // The orders of a board.
-ghost use Rattle.std.specs.Prelude.{◌≡◌, ◌++◌, map, IfOk, OnOk};
+ghost use Rattle.std.specs.Prelude.{◌≡◌, ◌++◌, map, None, IfOk, OnOk};
 ghost use Rattle.nest.specs.Nests.{shown};
 ghost use Rattle.nest.specs.Views.{said};
-ghost use Rattle.compiler.specs.declared.span.SpanKind.TheVariants.{Plain};
 ghost use Rattle.compiler.specs.Making.{Orderable, AllOrderable, KeptIn, Seated, Spannable, seat_in};
 ghost use Rattle.compiler.specs.Orders.{board_orders, orders_for, task_order, walk_order};
 
-use crate::kinds::{i_kind, j_kind};
 use crate::order::{Order, Task, Work};
-use crate::span::SpanKind;
+use crate::owning::{i_owning, j_owning};
 use crate::tasks::tasks_of;
 use crate::view::BoardView;
 use nest::terms::{Mode, Statement};
@@ -24,21 +22,21 @@ impl<'a, R: OwnerMap, C: OwnerMap> BoardView<'a, R, C> {
         Order {
             statement: number,
             work: Work::One(task),
-            i: self.span_of(i_kind(statement, task), statement.i),
-            j: self.span_of(j_kind(statement, task), statement.j),
+            i: self.span_of(i_owning(statement, task), statement.i),
+            j: self.span_of(j_owning(statement, task), statement.j),
         }
     }
 
     /// The one order of a statement whose tasks are done cell by cell.
     fn walk_order(&self, number: usize, statement: &Statement) -> Order
-        requires { Spannable (seat_in (shown self.now.nest.now) (map R.OwnerMap.meaning self.now.row_maps.now) (map C.OwnerMap.meaning self.now.column_maps.now) self.now.board) Plain statement.now.i × Spannable (seat_in (shown self.now.nest.now) (map R.OwnerMap.meaning self.now.row_maps.now) (map C.OwnerMap.meaning self.now.column_maps.now) self.now.board) Plain statement.now.j }
+        requires { Spannable (seat_in (shown self.now.nest.now) (map R.OwnerMap.meaning self.now.row_maps.now) (map C.OwnerMap.meaning self.now.column_maps.now) self.now.board) None statement.now.i × Spannable (seat_in (shown self.now.nest.now) (map R.OwnerMap.meaning self.now.row_maps.now) (map C.OwnerMap.meaning self.now.column_maps.now) self.now.board) None statement.now.j }
         ensures { result ≡ walk_order (seat_in (shown self.now.nest.now) (map R.OwnerMap.meaning self.now.row_maps.now) (map C.OwnerMap.meaning self.now.column_maps.now) self.now.board) number (said statement.now) }
     {
         Order {
             statement: number,
             work: Work::Walk,
-            i: self.span_of(SpanKind::Plain, statement.i),
-            j: self.span_of(SpanKind::Plain, statement.j),
+            i: self.span_of(None, statement.i),
+            j: self.span_of(None, statement.j),
         }
     }
 

@@ -10,19 +10,11 @@ pub struct Owning {
     pub subscript: Subscript,
 }
 
-/// What the numbers of a span are.
-#[derive(Clone, Copy)]
-pub enum SpanKind {
-    /// Loop values.
-    Plain,
-    /// Ranks that the board owns in a dimension.
-    Owned(Owning),
-}
-
-/// The numbers from `first` up to, and without, `end`.
+/// The numbers from `first` up to, and without, `end`: ranks that the board owns in a dimension, or loop values where nothing
+/// owns the span.
 #[derive(Clone, Copy)]
 pub struct Span {
-    pub kind: SpanKind,
+    pub owning: Option<Owning>,
     pub first: usize,
     pub end: usize,
 }

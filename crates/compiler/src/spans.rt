@@ -6,7 +6,7 @@ ghost use Rattle.compiler.specs.Making.{Answerable, Countable, Spannable, counts
 ghost use Rattle.compiler.specs.Spans.{span_of};
 
 use crate::positions::position_at;
-use crate::span::{Owning, Span, SpanKind};
+use crate::span::{Owning, Span};
 use crate::view::BoardView;
 use dealing::dimension::Dimension;
 use nest::terms::Range;
@@ -39,22 +39,22 @@ impl<'a, R: OwnerMap, C: OwnerMap> BoardView<'a, R, C> {
         }
     }
 
-    /// The span of a kind over a loop range.
-    pub(crate) fn span_of(&self, kind: SpanKind, range: Range) -> Span
-        requires { Spannable (seat_in (shown self.now.nest.now) (map R.OwnerMap.meaning self.now.row_maps.now) (map C.OwnerMap.meaning self.now.column_maps.now) self.now.board) kind range }
-        ensures { result ≡ span_of (seat_in (shown self.now.nest.now) (map R.OwnerMap.meaning self.now.row_maps.now) (map C.OwnerMap.meaning self.now.column_maps.now) self.now.board) kind range }
+    /// The span over a loop range that is owned so, or a plain one.
+    pub(crate) fn span_of(&self, owning: Option<Owning>, range: Range) -> Span
+        requires { Spannable (seat_in (shown self.now.nest.now) (map R.OwnerMap.meaning self.now.row_maps.now) (map C.OwnerMap.meaning self.now.column_maps.now) self.now.board) owning range }
+        ensures { result ≡ span_of (seat_in (shown self.now.nest.now) (map R.OwnerMap.meaning self.now.row_maps.now) (map C.OwnerMap.meaning self.now.column_maps.now) self.now.board) owning range }
     {
-        match kind {
-            SpanKind::Plain => Span {
-                kind,
+        match owning {
+            None => Span {
+                owning,
                 first: range.low,
                 end: range.high + 1,
             },
-            SpanKind::Owned(owning) => {
-                let low = position_at(owning.subscript, range.low);
-                let past = position_at(owning.subscript, range.high) + 1;
-                let (first, end) = self.counts_in(owning, low, past);
-                Span { kind, first, end }
+            Some(by) => {
+                let low = position_at(by.subscript, range.low);
+                let past = position_at(by.subscript, range.high) + 1;
+                let (first, end) = self.counts_in(by, low, past);
+                Span { owning, first, end }
             }
         }
     }
