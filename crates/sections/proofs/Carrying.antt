@@ -6,9 +6,9 @@ use Rattle.layout.specs.Places.{total, IsElement, place_of}
 use Rattle.layout.proofs.PlaceLaws.{place_below, place_alone}
 use Rattle.sections.specs.declared.way.Way.{Way}
 use Rattle.sections.specs.declared.way.Way.TheVariants.{IntoSections, IntoArrays}
-use Rattle.sections.specs.Sections.{Fits, section_of}
+use Rattle.sections.specs.Sections.{EachSound, Fits, section_of}
 use Rattle.sections.specs.Carry.{Course, read_of, written_of, source, target, Right, RowRight, ArrayRight, StaysRight}
-use Rattle.sections.proofs.SectionPlaces.{EachSound, section_below, section_alone}
+use Rattle.sections.proofs.SectionPlaces.{section_below, section_alone}
 
 either_below : (way : Way) (p s n : ℕ) → p < n → s < n → (read_of way p s < n) × (written_of way p s < n)
 either_below IntoSections p s n hp hs = (hp, hs)

@@ -5,11 +5,10 @@ use Rattle.nest.specs.declared.terms.Array.{Array}
 use Rattle.nest.specs.declared.terms.Grid.{Grid}
 use Rattle.owner_map.specs.Meaning.{Deal}
 use Rattle.sections.specs.Holdings.{OverGrid, PartsBegin, PartsLow}
-use Rattle.sections.specs.Sections.{Deals, Fits, dealt}
+use Rattle.sections.specs.Sections.{EachSound, Deals, Fits, dealt}
 use Rattle.sections.specs.Starts.{Begun}
 use Rattle.sections.proofs.NestRoom.{Room}
 use Rattle.sections.proofs.PartStarts.{part_room}
-use Rattle.sections.proofs.SectionPlaces.{EachSound}
 
 map_push : {X Y : Type 0} (f : X → Y) (xs : List X) (x : X) → map f (xs ++ x ∷ []) ≡ map f xs ++ f x ∷ []
 map_push f [] x = λ i. f x ∷ []

@@ -11,10 +11,9 @@ use Rattle.sections.specs.declared.dealt.Dealt.{Dealt}
 use Rattle.sections.specs.declared.map_table.MapTable.{MapTable}
 use Rattle.sections.specs.Dealings.{deals_of}
 use Rattle.sections.specs.MapTables.{tabled}
-use Rattle.sections.specs.Sections.{Deals, Fits, undealt, rows_of, columns_of, board_of, part_at, part_size, section_of}
+use Rattle.sections.specs.Sections.{EachSound, Deals, Fits, undealt, rows_of, columns_of, board_of, part_at, part_size, section_of}
 use Rattle.sections.proofs.Cells.{board_below, cell_below}
 use Rattle.sections.proofs.MapsFit.{maps_sound}
-use Rattle.sections.proofs.SectionPlaces.{EachSound}
 
 -- the first n maps of a longer row
 module _ {X : Type 0} (f : X → Deal) (xs : List X) (n : ℕ) (room : n ≤ length xs) where

@@ -10,8 +10,8 @@ use Rattle.sections.specs.declared.way.Way.TheVariants.{IntoSections, IntoArrays
 use Rattle.sections.specs.Carry.{course_of, AllRight}
 use Rattle.sections.specs.Exchange.{SameElements, Long, Due, Answered, ArraysBack, SectionsBack}
 use Rattle.sections.specs.Refusals.{number}
-use Rattle.sections.specs.Sections.{Deals, Fits, dealt}
-use Rattle.sections.proofs.SectionPlaces.{EachSound, section_taken}
+use Rattle.sections.specs.Sections.{EachSound, Deals, Fits, dealt}
+use Rattle.sections.proofs.SectionPlaces.{section_taken}
 
 module _ {T : Type 0} (sheet : Sheet) (rows columns : List Deal) (from to : List T) where
   pub scattered : AllRight (course_of IntoSections sheet rows columns) from to → SameElements sheet (dealt rows columns) from to

@@ -5,8 +5,7 @@ use Rattle.nest.specs.declared.terms.Array.{Array}
 use Rattle.nest.specs.declared.terms.Grid.{Grid}
 use Rattle.layout.specs.Places.{array_at}
 use Rattle.owner_map.specs.Meaning.{Deal, Sound}
-use Rattle.sections.specs.Sections.{Deals, DealsOut, Fits, dealt, undealt, rows_of, columns_of}
-use Rattle.sections.proofs.SectionPlaces.{EachSound}
+use Rattle.sections.specs.Sections.{EachSound, Deals, DealsOut, Fits, dealt, undealt, rows_of, columns_of}
 
 -- the deal of the map at t
 pub meant : {X : Type 0} (f : X → Deal) (xs : List X) (t : ℕ) (x : X) → t < length xs → x ≡ get_or xs t x → f x ≡ get_or (map f xs) t undealt

@@ -9,9 +9,9 @@ use Rattle.layout.specs.Places.{IsElement}
 use Rattle.owner_map.specs.Meaning.{Deal, Position, position, owner, rank, share, sum_over}
 use Rattle.owner_map.specs.Deals.{place_undone}
 use Rattle.sections.specs.Order.{Element, owned_by, row_list, part_list, section_list, section_order, PlaceIsIndex}
-use Rattle.sections.specs.Sections.{Deals, Fits, rows_of, columns_of, board_of, part_size, part_start, section_size, cell_of, section_of}
+use Rattle.sections.specs.Sections.{EachSound, Deals, Fits, rows_of, columns_of, board_of, part_size, part_start, section_size, cell_of, section_of}
 use Rattle.sections.proofs.Cells.{rank_below, board_row, board_column}
-use Rattle.sections.proofs.SectionPlaces.{EachSound, row_on, column_on, rows_sound, columns_sound, here, within_part, within_section, on_board, section_split, sections_total}
+use Rattle.sections.proofs.SectionPlaces.{row_on, column_on, rows_sound, columns_sound, here, within_part, within_section, on_board, section_split, sections_total}
 use Rattle.sections.proofs.Sums.{sum_like, sum_first}
 
 -- lists of known lengths, one after the other

@@ -8,10 +8,10 @@ use Rattle.nest.specs.declared.terms.Grid.{Grid}
 use Rattle.layout.specs.Places.{total}
 use Rattle.owner_map.specs.Meaning.{Deal, share, sum_over}
 use Rattle.owner_map.specs.Deals.{sum_over_more}
-use Rattle.sections.specs.Sections.{Deals, Fits, dealt, part_at, part_size, part_start, section_size, section_start}
+use Rattle.sections.specs.Sections.{EachSound, Deals, Fits, dealt, part_at, part_size, part_start, section_size, section_start}
 use Rattle.sections.specs.Starts.{Begins}
 use Rattle.sections.proofs.MapsFit.{meant}
-use Rattle.sections.proofs.SectionPlaces.{EachSound, sections_total}
+use Rattle.sections.proofs.SectionPlaces.{sections_total}
 use Rattle.sections.proofs.Sums.{sum_grows}
 
 -- the table is right for all boards below p, and for the arrays below t on board p

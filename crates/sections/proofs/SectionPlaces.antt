@@ -6,15 +6,10 @@ use Rattle.layout.specs.Places.{size_of, total, IsElement, array_at}
 use Rattle.layout.proofs.Starts.{element_here, element_there}
 use Rattle.owner_map.specs.Meaning.{Deal, Sound, Position, extent, share, sum_over}
 use Rattle.owner_map.specs.Deals.{counts_add_up}
-use Rattle.sections.specs.Sections.{Deals, Fits, rows_of, columns_of, board_of, part_size, part_start, section_size, section_start, cell_of, section_of}
+use Rattle.sections.specs.Sections.{EachSound, Deals, Fits, rows_of, columns_of, board_of, part_size, part_start, section_size, section_start, cell_of, section_of}
 use Rattle.sections.specs.SectionLaws.{SectionBelow, SectionAlone, SectionTaken, OneSectionEach}
 use Rattle.sections.proofs.Cells.{board_below, cell_below, cell_alone, cell_taken}
 use Rattle.sections.proofs.Sums.{sum_like, sum_first, sum_swap, sum_grid, sum_below, sum_alone, sum_taken}
-
--- the deals of maps: each is one that a map may mean
-abbrev pub EachSound : Deals → Type 0
-EachSound deals =
-    ((t : ℕ) → t < length deals.rows → Sound (rows_of deals t)) × ((t : ℕ) → t < length deals.columns → Sound (columns_of deals t))
 
 -- the shares of all boards make up the whole dimension
 shares : (d : Deal) (boards size : ℕ) → Sound d → d.boards ≡ boards → extent d ≡ size → sum_over boards (share d) ≡ size

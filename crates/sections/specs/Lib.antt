@@ -1,4 +1,5 @@
 pub mod Sections
+pub mod DealtNests
 pub mod SectionLaws
 pub mod Order
 pub mod Starts

@@ -5,7 +5,7 @@ use Rattle.std.specs.Prelude.{◌≡◌, ℕ, ◌+◌, ◌*◌, ◌/◌, ◌%◌
 use Rattle.nest.specs.declared.terms.Array.{Array}
 use Rattle.nest.specs.declared.terms.Grid.{Grid}
 use Rattle.layout.specs.Places.{array_at}
-use Rattle.owner_map.specs.Meaning.{Deal, extent, owner, rank, share, sum_over}
+use Rattle.owner_map.specs.Meaning.{Deal, Sound, extent, owner, rank, share, sum_over}
 
 -- how the arrays of a nest are dealt out: for each its rows over the grid's rows, its columns over the grid's columns
 pub record Deals : Type 0 where
@@ -32,6 +32,11 @@ abbrev pub Fits : Grid → List Array → Deals → Type 0
 Fits grid arrays deals =
     (length deals.rows ≡ length arrays) × (length deals.columns ≡ length arrays)
     × ((t : ℕ) → t < length arrays → DealsOut (rows_of deals t) grid.rows (array_at arrays t).rows × DealsOut (columns_of deals t) grid.columns (array_at arrays t).columns)
+
+-- each deal is one that a map may mean
+abbrev pub EachSound : Deals → Type 0
+EachSound deals =
+    ((t : ℕ) → t < length deals.rows → Sound (rows_of deals t)) × ((t : ℕ) → t < length deals.columns → Sound (columns_of deals t))
 
 -- the board of element (x, y) of array t, on a grid of q rows
 abbrev pub board_of : ℕ → Deals → ℕ → ℕ → ℕ → ℕ

@@ -5,6 +5,7 @@ mod asked;
 mod carry;
 mod dealt;
 mod exchange;
+mod fitted;
 mod fitting;
 mod holdings;
 mod lookup;
@@ -19,6 +20,7 @@ mod way;
 
 pub use dealt::Dealt;
 pub use exchange::{gather, scatter};
+pub use fitted::Fitted;
 pub use fitting::maps_fit;
 pub use map_table::MapTable;
 pub use refusal::LayoutRefusal;
