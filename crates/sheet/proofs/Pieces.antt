@@ -1,11 +1,9 @@
 -- The fields of a line lie on it. Assumes nothing.
-use Rattle.std.proofs.Common.{◌≡◌, ℕ, ◌+◌, ◌<◌, ◌≤◌, List, [], ◌∷◌, length, sym, refl, ap, ◌∙◌, subst, arith, length-drop}
+use Rattle.std.proofs.Common.{◌≡◌, ℕ, ◌+◌, ◌<◌, ◌≤◌, List, [], ◌∷◌, length, sym, refl, ap, ◌∙◌, subst, arith, length-drop, Ok, Err}
 use Rattle.std.specs.List.{AllByRecursion}
 use Rattle.std.proofs.ByRecursion.{All-weaker}
 use Rattle.tokens.specs.declared.extent.FieldKind.{FieldKind}
-use Rattle.tokens.specs.declared.extent.Extent.{Extent}
-use Rattle.tokens.specs.declared.extent.Extent.TheVariants.{Whole, Stuck}
-use Rattle.tokens.specs.Extents.{size, literal, extent_of}
+use Rattle.tokens.specs.Extents.{Extent, size, literal, extent_of}
 use Rattle.tokens.specs.Texts.{Text, Piece, got, past, taken, word, field, line_end, fields_behind, Form, fields_of}
 use Rattle.tokens.proofs.LineLaws.{not_got}
 use Rattle.tokens.proofs.Steps.{byte_after}
@@ -21,12 +19,12 @@ abbrev pub Sits : Text → Text → Piece → Type 0
 Sits t u p = (p.line ≡ t.line) × (t.byte ≤ p.byte) × (p.byte + length u.rest < t.byte + length t.rest)
 
 taken_further : (e : Extent) (t : Text) → size e ≤ length t.rest → (p : Piece) (u : Text) → taken e t ≡ got p u → Further t u × (p.line ≡ t.line) × (p.byte ≡ t.byte)
-taken_further (Whole n) t h p u k =
+taken_further (Ok n) t h p u k =
     let text : past n t ≡ u = cc in
     let line : t.line ≡ p.line = cc in
     let byte : t.byte ≡ p.byte = cc in
     (subst (Further t) text (refl, omega arith, omega (arith, length-drop n t.rest)), sym line, sym byte)
-taken_further (Stuck n) t h p u k = absurd (not_got _ _ _ p u k)
+taken_further (Err e) t h p u k = absurd (not_got _ _ _ p u k)
 
 word_further : (w : List ℕ) (t : Text) (p : Piece) (u : Text) → word w t ≡ got p u → Further t u
 word_further w t p u e = (taken_further (literal w t.rest) t (literal_within w t.rest) p u e).0

@@ -1,9 +1,7 @@
 -- Extents that end or stick at the first byte that cannot go on, whatever follows it. Assumes nothing.
-use Rattle.std.proofs.Common.{◌≡◌, ℕ, ◌⊎◌, List, [], ◌∷◌, ◌++◌, length, sym, refl, ap, ◌∙◌, subst, inl, inr, arith}
+use Rattle.std.proofs.Common.{◌≡◌, ℕ, ◌⊎◌, List, [], ◌∷◌, ◌++◌, length, sym, refl, ap, ◌∙◌, subst, inl, inr, arith, Ok, Err}
 use mathlib.Core.Path.{fun_ext}
-use Rattle.tokens.specs.declared.extent.Extent.{Extent}
-use Rattle.tokens.specs.declared.extent.Extent.TheVariants.{Whole, Stuck}
-use Rattle.tokens.specs.Extents.{after}
+use Rattle.tokens.specs.Extents.{Extent, stuck, after}
 use Rattle.tokens.specs.FormLaws.{Unbroken}
 
 -- the two begin with the same byte, or are both empty
@@ -28,7 +26,7 @@ pub record WholeAt (Follows : List ℕ → Type 0) (f : List ℕ → Extent) (s 
   pub cut : s ≡ front ++ back
   pub counted : n ≡ length front
   pub unbroken : Unbroken front
-  pub whatever : (c : List ℕ) → Alike back c ⊎ Follows c → f (front ++ c) ≡ Whole (length front)
+  pub whatever : (c : List ℕ) → Alike back c ⊎ Follows c → f (front ++ c) ≡ Ok (length front)
 
 -- n bytes at the front of s can be made whole for f by more bytes, and cannot with the next byte of s
 pub record StuckAt (Follows : List ℕ → Type 0) (f : List ℕ → Extent) (s : List ℕ) (n : ℕ) : Type 0 where
@@ -38,12 +36,12 @@ pub record StuckAt (Follows : List ℕ → Type 0) (f : List ℕ → Extent) (s 
   pub counted : n ≡ length front
   pub unbroken : Unbroken front
   pub more : List ℕ
-  pub goes_on : (c : List ℕ) → Follows c → f (front ++ more ++ c) ≡ Whole (length (front ++ more))
-  pub cannot : (x : ℕ) (w : List ℕ) → back ≡ x ∷ w → (c : List ℕ) → f (front ++ x ∷ c) ≡ Stuck (length front)
+  pub goes_on : (c : List ℕ) → Follows c → f (front ++ more ++ c) ≡ Ok (length (front ++ more))
+  pub cannot : (x : ℕ) (w : List ℕ) → back ≡ x ∷ w → (c : List ℕ) → f (front ++ x ∷ c) ≡ stuck (length front)
 
 abbrev pub Cut : (List ℕ → Type 0) → (List ℕ → Extent) → List ℕ → Extent → Type 0
-Cut Follows f s (Whole n) = WholeAt Follows f s n
-Cut Follows f s (Stuck n) = StuckAt Follows f s n
+Cut Follows f s (Ok n) = WholeAt Follows f s n
+Cut Follows f s (Err e) = StuckAt Follows f s e.after
 
 -- the law of an extent; `Follows` says what may follow a whole field without changing it
 abbrev pub ExtentLaw : (List ℕ → Type 0) → (List ℕ → Extent) → Type 0
@@ -52,7 +50,7 @@ ExtentLaw Follows f = (s : List ℕ) → Cut Follows f s (f s)
 -- bytes that are whole for f before whatever may follow
 pub record Example (Follows : List ℕ → Type 0) (f : List ℕ → Extent) : Type 0 where
   pub bytes : List ℕ
-  pub whole : (c : List ℕ) → Follows c → f (bytes ++ c) ≡ Whole (length bytes)
+  pub whole : (c : List ℕ) → Follows c → f (bytes ++ c) ≡ Ok (length bytes)
 
 -- behind the byte b, f goes on as another extent with the law
 pub record Goes (Follows : List ℕ → Type 0) (f : List ℕ → Extent) (b : ℕ) : Type 0 where
@@ -68,8 +66,8 @@ Steps Follows f base = (b : ℕ) → Goes Follows f b ⊎ ((s : List ℕ) → f 
 -- An extent that needs a byte: at the end of the text, and at each byte that it cannot go on with, it is stuck before it.
 -- It can go on with the byte b.
 pub record Begins (Follows : List ℕ → Type 0) (f : List ℕ → Extent) (b : ℕ) : Type 0 where
-  pub none : f [] ≡ Stuck 0
-  pub steps : Steps Follows f (Stuck 0)
+  pub none : f [] ≡ stuck 0
+  pub steps : Steps Follows f (stuck 0)
   pub goes : Goes Follows f b
 
 empty_cons : (x : ℕ) (w : List ℕ) → [] ≡ x ∷ w → ⊥
@@ -80,8 +78,8 @@ head_of x y v w e = cc
 
 module _ {Follows : List ℕ → Type 0} where
   example_from : (f : List ℕ → Extent) (s : List ℕ) (e : Extent) → Cut Follows f s e → Example Follows f
-  example_from f s (Whole n) h = record { bytes = h.front; whole = λ c p. h.whatever c (inr p) }
-  example_from f s (Stuck n) h = record { bytes = h.front ++ h.more; whole = h.goes_on }
+  example_from f s (Ok n) h = record { bytes = h.front; whole = λ c p. h.whatever c (inr p) }
+  example_from f s (Err e) h = record { bytes = h.front ++ h.more; whole = h.goes_on }
 
   pub example : (f : List ℕ → Extent) → ExtentLaw Follows f → Example Follows f
   example f law = example_from f [] (f []) (law [])
@@ -91,16 +89,16 @@ module _ {Follows : List ℕ → Type 0} where
     longer c e h = go.so c ∙ ap (after 1) h
 
     pushed : (s : List ℕ) (e : Extent) → Cut Follows go.next s e → Cut Follows f (b ∷ s) (after 1 e)
-    pushed s (Whole n) h =
+    pushed s (Ok n) h =
         record {
           front = b ∷ h.front;
           back = h.back;
           cut = ap {B = List ℕ} (λ l. b ∷ l) h.cut;
           counted = omega (arith, h.counted);
           unbroken = (go.no_newline, h.unbroken);
-          whatever = λ c p. longer (h.front ++ c) _ (h.whatever c p) ∙ ap Whole (omega arith);
+          whatever = λ c p. longer (h.front ++ c) _ (h.whatever c p) ∙ ap Ok (omega arith);
         }
-    pushed s (Stuck n) h =
+    pushed s (Err e) h =
         record {
           front = b ∷ h.front;
           back = h.back;
@@ -108,16 +106,16 @@ module _ {Follows : List ℕ → Type 0} where
           counted = omega (arith, h.counted);
           unbroken = (go.no_newline, h.unbroken);
           more = h.more;
-          goes_on = λ c p. longer (h.front ++ h.more ++ c) _ (h.goes_on c p) ∙ ap Whole (omega arith);
-          cannot = λ x w e c. longer (h.front ++ x ∷ c) _ (h.cannot x w e c) ∙ ap Stuck (omega arith);
+          goes_on = λ c p. longer (h.front ++ h.more ++ c) _ (h.goes_on c p) ∙ ap Ok (omega arith);
+          cannot = λ x w e c. longer (h.front ++ x ∷ c) _ (h.cannot x w e c) ∙ ap stuck (omega arith);
         }
 
     on : (s : List ℕ) → Cut Follows f (b ∷ s) (f (b ∷ s))
     on s = subst (Cut Follows f (b ∷ s)) (sym (go.so s)) (pushed s (go.next s) (go.law s))
 
   module _ (f : List ℕ → Extent) (b : ℕ) (begins : Begins Follows f b) where
-    stuck : (s : List ℕ) → ((x : ℕ) (w : List ℕ) → s ≡ x ∷ w → (c : List ℕ) → f (x ∷ c) ≡ Stuck 0) → StuckAt Follows f s 0
-    stuck s never =
+    stopped : (s : List ℕ) → ((x : ℕ) (w : List ℕ) → s ≡ x ∷ w → (c : List ℕ) → f (x ∷ c) ≡ stuck 0) → StuckAt Follows f s 0
+    stopped s never =
         let go = begins.goes in
         let x = example go.next go.law in
         record {
@@ -127,31 +125,31 @@ module _ {Follows : List ℕ → Type 0} where
           counted = refl;
           unbroken = tt;
           more = b ∷ x.bytes;
-          goes_on = λ c p. longer f b go (x.bytes ++ c) _ (x.whole c p) ∙ ap Whole (omega arith);
+          goes_on = λ c p. longer f b go (x.bytes ++ c) _ (x.whole c p) ∙ ap Ok (omega arith);
           cannot = never;
         }
 
-    stuck_before : (x : ℕ) (s : List ℕ) → ((c : List ℕ) → f (x ∷ c) ≡ Stuck 0) → Cut Follows f (x ∷ s) (f (x ∷ s))
-    stuck_before x s is = subst (Cut Follows f (x ∷ s)) (sym (is s)) (stuck (x ∷ s) (λ y w e c. ap (λ z. f (z ∷ c)) (sym (head_of x y s w e)) ∙ is c))
+    stuck_before : (x : ℕ) (s : List ℕ) → ((c : List ℕ) → f (x ∷ c) ≡ stuck 0) → Cut Follows f (x ∷ s) (f (x ∷ s))
+    stuck_before x s is = subst (Cut Follows f (x ∷ s)) (sym (is s)) (stopped (x ∷ s) (λ y w e c. ap (λ z. f (z ∷ c)) (sym (head_of x y s w e)) ∙ is c))
 
     pub needs_byte : ExtentLaw Follows f
-    needs_byte [] = subst (Cut Follows f []) (sym begins.none) (stuck [] (λ x w e c. absurd (empty_cons x w e)))
+    needs_byte [] = subst (Cut Follows f []) (sym begins.none) (stopped [] (λ x w e c. absurd (empty_cons x w e)))
     needs_byte (x ∷ s) = elim (begins.steps x) [ inl g ↦ on f x g s | inr is ↦ stuck_before x s is ]
 
   -- An extent that may end here: at the end of the text, and at each byte that it cannot go on with, it is whole without it.
-  module _ (f : List ℕ → Extent) (none : f [] ≡ Whole 0) (steps : Steps Follows f (Whole 0)) (apart : (c : List ℕ) → Follows c → f c ≡ Whole 0) where
-    ended : (s : List ℕ) → ((c : List ℕ) → Alike s c → f c ≡ Whole 0) → WholeAt Follows f s 0
+  module _ (f : List ℕ → Extent) (none : f [] ≡ Ok 0) (steps : Steps Follows f (Ok 0)) (apart : (c : List ℕ) → Follows c → f c ≡ Ok 0) where
+    ended : (s : List ℕ) → ((c : List ℕ) → Alike s c → f c ≡ Ok 0) → WholeAt Follows f s 0
     ended s same = record { front = []; back = s; cut = refl; counted = refl; unbroken = tt; whatever = λ c p. elim p [ inl a ↦ same c a | inr q ↦ apart c q ] }
 
-    alike_none : (c : List ℕ) → Alike [] c → f c ≡ Whole 0
+    alike_none : (c : List ℕ) → Alike [] c → f c ≡ Ok 0
     alike_none [] a = none
     alike_none (y ∷ c) a = absurd a
 
-    alike_before : (x : ℕ) (s : List ℕ) → ((c : List ℕ) → f (x ∷ c) ≡ Whole 0) → (c : List ℕ) → Alike (x ∷ s) c → f c ≡ Whole 0
+    alike_before : (x : ℕ) (s : List ℕ) → ((c : List ℕ) → f (x ∷ c) ≡ Ok 0) → (c : List ℕ) → Alike (x ∷ s) c → f c ≡ Ok 0
     alike_before x s is [] a = absurd a
     alike_before x s is (y ∷ c) a = ap (λ z. f (z ∷ c)) (sym a) ∙ is c
 
-    ended_before : (x : ℕ) (s : List ℕ) → ((c : List ℕ) → f (x ∷ c) ≡ Whole 0) → Cut Follows f (x ∷ s) (f (x ∷ s))
+    ended_before : (x : ℕ) (s : List ℕ) → ((c : List ℕ) → f (x ∷ c) ≡ Ok 0) → Cut Follows f (x ∷ s) (f (x ∷ s))
     ended_before x s is = subst (Cut Follows f (x ∷ s)) (sym (is s)) (ended (x ∷ s) (alike_before x s is))
 
     pub may_end : ExtentLaw Follows f

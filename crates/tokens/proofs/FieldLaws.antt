@@ -1,12 +1,10 @@
 -- The extent of each kind of field ends or sticks at the first byte that cannot go on. Assumes nothing.
-use Rattle.std.proofs.Common.{◌≡◌, ℕ, zero, suc, true, false, cond, eqb, ltb, ◌⊎◌, List, [], ◌∷◌, refl, ap, ◌∙◌, inl, inr, arith}
+use Rattle.std.proofs.Common.{◌≡◌, ℕ, zero, suc, true, false, cond, eqb, ltb, ◌⊎◌, List, [], ◌∷◌, refl, ap, ◌∙◌, inl, inr, arith, Ok}
 use lib.Dec.{eqb-suc-zero}
 use Rattle.std.proofs.lemmas.Bool.{eqb-true, lt-ltb, cond-true, cond-false, cases_Bool, both_ways}
 use Rattle.tokens.specs.declared.extent.FieldKind.{FieldKind}
 use Rattle.tokens.specs.declared.extent.FieldKind.TheVariants.{Number, Signed, Mode, Variable, Map}
-use Rattle.tokens.specs.declared.extent.Extent.{Extent}
-use Rattle.tokens.specs.declared.extent.Extent.TheVariants.{Whole, Stuck}
-use Rattle.tokens.specs.Extents.{digit, digits, shared, some_of, literal, one_of, number, positive, signed, width, one_word, block_word, cyclic_map_word, map_word, extent_of}
+use Rattle.tokens.specs.Extents.{Extent, stuck, digit, digits, shared, some_of, literal, one_of, number, positive, signed, width, one_word, block_word, cyclic_map_word, map_word, extent_of}
 use Rattle.tokens.specs.FormLaws.{Unbroken}
 use Rattle.tokens.proofs.Extending.{ExtentLaw, Goes, Begins, needs_byte, may_end}
 use Rattle.tokens.proofs.Spelling.{nothing, nothing_law, behind_begins, literal_begins}
@@ -18,7 +16,7 @@ Quiet (b ∷ s) = (digit b ≡ false) × (eqb b 58 ≡ false)
 
 -- what an extent does at one byte
 abbrev Step : (List ℕ → Extent) → ℕ → Type 0
-Step f b = Goes Quiet f b ⊎ ((s : List ℕ) → f (b ∷ s) ≡ Stuck 0)
+Step f b = Goes Quiet f b ⊎ ((s : List ℕ) → f (b ∷ s) ≡ stuck 0)
 
 -- where two extents are the same at a byte, one does what the other does
 same_goes : (f g : List ℕ → Extent) (b : ℕ) → ((s : List ℕ) → f (b ∷ s) ≡ g (b ∷ s)) → Goes Quiet g b → Goes Quiet f b
@@ -33,21 +31,21 @@ digit_no_newline b t e = both_ways (digit b) (ap digit e) t
 
 -- so many digits at the most
 abbrev counted : ℕ → List ℕ → Extent
-counted most s = Whole (digits most s)
+counted most s = Ok (digits most s)
 
 counted_law : (most : ℕ) → ExtentLaw Quiet (counted most)
 counted_law zero = nothing_law Quiet
 counted_law (suc most) = more (counted_law most)
   where
     goes : ExtentLaw Quiet (counted most) → (b : ℕ) → digit b ≡ true → Goes Quiet (counted (suc most)) b
-    goes law b t = record { next = counted most; law = law; no_newline = digit_no_newline b t; so = λ s. ap Whole (cond-true (digit b) (suc (digits most s)) 0 t ∙ omega arith) }
+    goes law b t = record { next = counted most; law = law; no_newline = digit_no_newline b t; so = λ s. ap Ok (cond-true (digit b) (suc (digits most s)) 0 t ∙ omega arith) }
 
-    apart : (c : List ℕ) → Quiet c → counted (suc most) c ≡ Whole 0
+    apart : (c : List ℕ) → Quiet c → counted (suc most) c ≡ Ok 0
     apart [] p = refl
-    apart (b ∷ c) p = ap Whole (cond-false (digit b) _ _ p.0)
+    apart (b ∷ c) p = ap Ok (cond-false (digit b) _ _ p.0)
 
     more : ExtentLaw Quiet (counted most) → ExtentLaw Quiet (counted (suc most))
-    more law = may_end (counted (suc most)) refl (λ b. elim (cases_Bool (digit b)) [ inl t ↦ inl (goes law b t) | inr t ↦ inr (λ s. ap Whole (cond-false (digit b) _ _ t)) ]) apart
+    more law = may_end (counted (suc most)) refl (λ b. elim (cases_Bool (digit b)) [ inl t ↦ inl (goes law b t) | inr t ↦ inr (λ s. ap Ok (cond-false (digit b) _ _ t)) ]) apart
 
 -- a byte that is not 0
 module _ (b : ℕ) (other : eqb b 48 ≡ false) where
@@ -60,7 +58,7 @@ module _ (b : ℕ) (other : eqb b 48 ≡ false) where
         next = counted 3;
         law = counted_law 3;
         no_newline = digit_no_newline b t;
-        so = λ s. past_zero s ∙ ap some_of (cond-true (digit b) (suc (digits 3 s)) 0 t) ∙ cond-false _ _ _ (eqb-suc-zero (digits 3 s)) ∙ ap Whole (omega arith);
+        so = λ s. past_zero s ∙ ap some_of (cond-true (digit b) (suc (digits 3 s)) 0 t) ∙ cond-false _ _ _ (eqb-suc-zero (digits 3 s)) ∙ ap Ok (omega arith);
       }
 
   number_step_other : Step number b
@@ -114,7 +112,7 @@ width_law =
       | inr t ↦ inr (λ s. cond-false (eqb b 58) _ _ t)
     ]) apart
   where
-    apart : (c : List ℕ) → Quiet c → width c ≡ Whole 0
+    apart : (c : List ℕ) → Quiet c → width c ≡ Ok 0
     apart [] p = refl
     apart (b ∷ c) p = cond-false (eqb b 58) _ _ p.1
 

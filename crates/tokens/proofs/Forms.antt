@@ -1,11 +1,9 @@
 -- The readers of the fields of a line, and of a line of a form, have the law of readers. Assumes nothing.
-use Rattle.std.proofs.Common.{◌≡◌, ℕ, ◌+◌, true, false, eqb, List, [], ◌∷◌, sym, refl, ap, ◌∙◌, subst, inl, inr, arith}
+use Rattle.std.proofs.Common.{◌≡◌, ℕ, ◌+◌, true, false, eqb, List, [], ◌∷◌, sym, refl, ap, ◌∙◌, subst, inl, inr, arith, Ok}
 use mathlib.Core.Path.{fun_ext}
 use Rattle.std.proofs.lemmas.Bool.{eqb-true, cond-true, cond-false, cases_Bool}
 use Rattle.tokens.specs.declared.extent.FieldKind.{FieldKind}
-use Rattle.tokens.specs.declared.extent.Extent.{Extent}
-use Rattle.tokens.specs.declared.extent.Extent.TheVariants.{Whole, Stuck}
-use Rattle.tokens.specs.Extents.{literal, extent_of}
+use Rattle.tokens.specs.Extents.{Extent, stuck, literal, extent_of}
 use Rattle.tokens.specs.Texts.{Text, Piece, Read, got, refused, then, taken, word, field, line_end, fields_behind, Form, fields_of}
 use Rattle.tokens.specs.FormLaws.{onwards, next_line, Unbroken}
 use Rattle.tokens.proofs.Spelling.{literal_spelled, literal_law}
@@ -14,10 +12,10 @@ use Rattle.tokens.proofs.LineLaws.{not_got, first_got, then_then, StoppedLine, L
 
 -- a byte, read as a word of its own
 module _ (b : ℕ) where
-  byte_there : (x : ℕ) (s : List ℕ) → eqb b x ≡ true → literal (b ∷ []) (x ∷ s) ≡ Whole 1
+  byte_there : (x : ℕ) (s : List ℕ) → eqb b x ≡ true → literal (b ∷ []) (x ∷ s) ≡ Ok 1
   byte_there x s e = literal_spelled (b ∷ []) (x ∷ s) ∙ cond-true (eqb b x) _ _ e
 
-  byte_other : (x : ℕ) (s : List ℕ) → eqb b x ≡ false → literal (b ∷ []) (x ∷ s) ≡ Stuck 0
+  byte_other : (x : ℕ) (s : List ℕ) → eqb b x ≡ false → literal (b ∷ []) (x ∷ s) ≡ stuck 0
   byte_other x s e = literal_spelled (b ∷ []) (x ∷ s) ∙ cond-false (eqb b x) _ _ e
 
   quiet_byte : Quiet (b ∷ []) → (s : List ℕ) (t : Text) (p : Piece) (l : Text) → taken (literal (b ∷ []) s) t ≡ got p l → Quiet s

@@ -1,8 +1,7 @@
 -- Readers of a line that stop at the first byte that cannot go on. Assumes nothing.
-use Rattle.std.proofs.Common.{◌≡◌, ℕ, ◌+◌, ◌⊎◌, List, [], ◌∷◌, ◌++◌, length, sym, refl, ap, ◌∙◌, subst, inl, inr, append_assoc, arith, length-append}
+use Rattle.std.proofs.Common.{◌≡◌, ℕ, ◌+◌, ◌⊎◌, List, [], ◌∷◌, ◌++◌, length, sym, refl, ap, ◌∙◌, subst, inl, inr, append_assoc, arith, length-append, Ok, Err}
 use lib.Seq.{take-append_seam, drop-append_seam}
-use Rattle.tokens.specs.declared.extent.Extent.{Extent}
-use Rattle.tokens.specs.declared.extent.Extent.TheVariants.{Whole, Stuck}
+use Rattle.tokens.specs.Extents.{Extent, stuck}
 use Rattle.tokens.specs.Texts.{Text, Piece, Read, got, refused, then, taken}
 use Rattle.tokens.specs.FormLaws.{onwards, next_line, Unbroken}
 use Rattle.tokens.proofs.Extending.{Alike, alike_same, alike_front, WholeAt, StuckAt, Cut, ExtentLaw}
@@ -83,12 +82,12 @@ abbrev pub behind_extent : {V : Type 0} → (List ℕ → Extent) → (Piece →
 behind_extent f k t = then (taken (f t.rest) t) k
 
 module _ {V : Type 0} (f : List ℕ → Extent) (k : Piece → Text → Read V) (t : Text) where
-  whole_read : (u c : List ℕ) → f (u ++ c) ≡ Whole (length u) → behind_extent f k (onwards t (u ++ c)) ≡ k (piece_at t u) (beyond t u c)
+  whole_read : (u c : List ℕ) → f (u ++ c) ≡ Ok (length u) → behind_extent f k (onwards t (u ++ c)) ≡ k (piece_at t u) (beyond t u c)
   whole_read u c h =
       ap (λ e. then (taken e (onwards t (u ++ c))) k) h
       ∙ (λ i. k (piece_at t (take-append_seam u c i)) (beyond t u (drop-append_seam u c i)))
 
-  stuck_read : (s : List ℕ) (n : ℕ) → f s ≡ Stuck n → behind_extent f k (onwards t s) ≡ refused 1 t.line (t.byte + n)
+  stuck_read : (s : List ℕ) (n : ℕ) → f s ≡ stuck n → behind_extent f k (onwards t s) ≡ refused 1 t.line (t.byte + n)
   stuck_read s n h = ap (λ e. then (taken e (onwards t s)) k) h
 
 -- Behind an extent with the law, readers with the law, whose lines may follow it: together they have the law.
@@ -162,8 +161,8 @@ module _ {V : Type 0} (Follows : List ℕ → Type 0) (f : List ℕ → Extent) 
   behind_extent_lem t = go (f t.rest) refl (law t.rest)
     where
       go : (e : Extent) → f t.rest ≡ e → Cut Follows f t.rest e → LineCut (behind_extent f k) t (behind_extent f k t)
-      go (Whole n) is h = whole_line t n h
-      go (Stuck n) is h = subst (LineCut (behind_extent f k) t) (sym (stuck_read f k t t.rest n is)) (stuck_then t n h)
+      go (Ok n) is h = whole_line t n h
+      go (Err e) is h = subst (LineCut (behind_extent f k) t) (sym (stuck_read f k t t.rest e.after is)) (stuck_then t e.after h)
 
 -- another value made of the reader's own
 module _ {V W : Type 0} (make : V → W) (r : Text → Read V) where

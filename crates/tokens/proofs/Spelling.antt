@@ -1,16 +1,14 @@
 -- A word at the front of a text, byte by byte. Assumes nothing.
-use Rattle.std.proofs.Common.{◌≡◌, ℕ, suc, Bool, true, false, cond, eqb, ltb, List, [], ◌∷◌, length, drop, refl, ap, ◌∙◌, inl, inr, arith}
+use Rattle.std.proofs.Common.{◌≡◌, ℕ, suc, Bool, true, false, cond, eqb, ltb, List, [], ◌∷◌, length, drop, refl, ap, ◌∙◌, inl, inr, arith, Ok, Err}
 use lib.Dec.{eqb-zero-suc, eqb-suc-suc, leb-suc-suc}
 use Rattle.std.proofs.lemmas.Bool.{eqb-true, eq-eqb, lt-ltb, cond-true, cond-false, cases_Bool}
-use Rattle.tokens.specs.declared.extent.Extent.{Extent}
-use Rattle.tokens.specs.declared.extent.Extent.TheVariants.{Whole, Stuck}
-use Rattle.tokens.specs.Extents.{shared, after, literal}
+use Rattle.tokens.specs.Extents.{Extent, stuck, shared, after, literal}
 use Rattle.tokens.specs.FormLaws.{Unbroken}
 use Rattle.tokens.proofs.Extending.{ExtentLaw, Goes, Begins, needs_byte, may_end, same_begins}
 
 -- the extent that counts nothing
 abbrev pub nothing : List ℕ → Extent
-nothing s = Whole 0
+nothing s = Ok 0
 
 pub nothing_law : (Follows : List ℕ → Type 0) → ExtentLaw Follows nothing
 nothing_law Follows = may_end nothing refl (λ b. inr (λ s. refl)) (λ c p. refl)
@@ -18,8 +16,8 @@ nothing_law Follows = may_end nothing refl (λ b. inr (λ s. refl)) (λ c p. ref
 -- a word, byte by byte, and another extent behind it
 abbrev pub spelled : List ℕ → (List ℕ → Extent) → List ℕ → Extent
 spelled [] g s = g s
-spelled (a ∷ w) g [] = Stuck 0
-spelled (a ∷ w) g (b ∷ s) = cond (eqb a b) (after 1 (spelled w g s)) (Stuck 0)
+spelled (a ∷ w) g [] = stuck 0
+spelled (a ∷ w) g (b ∷ s) = cond (eqb a b) (after 1 (spelled w g s)) (stuck 0)
 
 module _ (Follows : List ℕ → Type 0) (g : List ℕ → Extent) (law : ExtentLaw Follows g) where
   module _ (a : ℕ) (w : List ℕ) (no_newline : a ≡ 10 → ⊥) (tail : ExtentLaw Follows (spelled w g)) where
@@ -41,23 +39,23 @@ module _ (Follows : List ℕ → Type 0) (g : List ℕ → Extent) (law : Extent
         }
 
 after_zero : (e : Extent) → after 0 e ≡ e
-after_zero (Whole k) = ap Whole (omega arith)
-after_zero (Stuck k) = ap Stuck (omega arith)
+after_zero (Ok k) = ap Ok (omega arith)
+after_zero (Err e) = ap stuck (omega arith)
 
 after_suc : (n : ℕ) (e : Extent) → after (suc n) e ≡ after 1 (after n e)
-after_suc n (Whole k) = ap Whole (omega arith)
-after_suc n (Stuck k) = ap Stuck (omega arith)
+after_suc n (Ok k) = ap Ok (omega arith)
+after_suc n (Err e) = ap stuck (omega arith)
 
 -- a word by the bytes that it shares with the text, and another extent behind it
 abbrev pub behind_word : List ℕ → (List ℕ → Extent) → List ℕ → Extent
-behind_word w g s = cond (ltb (shared w s) (length w)) (Stuck (shared w s)) (after (length w) (g (drop (length w) s)))
+behind_word w g s = cond (ltb (shared w s) (length w)) (stuck (shared w s)) (after (length w) (g (drop (length w) s)))
 
-one_whole : (t : Bool) (n k : ℕ) → cond t (Whole (suc n)) (Stuck (suc k)) ≡ after 1 (cond t (Whole n) (Stuck k))
-one_whole true n k = ap Whole (omega arith)
-one_whole false n k = ap Stuck (omega arith)
+one_whole : (t : Bool) (n k : ℕ) → cond t (Ok (suc n)) (stuck (suc k)) ≡ after 1 (cond t (Ok n) (stuck k))
+one_whole true n k = ap Ok (omega arith)
+one_whole false n k = ap stuck (omega arith)
 
-one_behind : (t : Bool) (n k : ℕ) (e : Extent) → cond t (Stuck (suc k)) (after (suc n) e) ≡ after 1 (cond t (Stuck k) (after n e))
-one_behind true n k e = ap Stuck (omega arith)
+one_behind : (t : Bool) (n k : ℕ) (e : Extent) → cond t (stuck (suc k)) (after (suc n) e) ≡ after 1 (cond t (stuck k) (after n e))
+one_behind true n k e = ap stuck (omega arith)
 one_behind false n k e = after_suc n e
 
 pub literal_spelled : (w s : List ℕ) → literal w s ≡ spelled w nothing s
@@ -66,7 +64,7 @@ literal_spelled (a ∷ w) [] = cond-false _ _ _ (eqb-zero-suc (length w))
 literal_spelled (a ∷ w) (b ∷ s) = go (eqb a b) (literal_spelled w s)
   where
     go : (t : Bool) → literal w s ≡ spelled w nothing s
-        → cond (eqb (cond t (suc (shared w s)) 0) (suc (length w))) (Whole (suc (length w))) (Stuck (cond t (suc (shared w s)) 0)) ≡ cond t (after 1 (spelled w nothing s)) (Stuck 0)
+        → cond (eqb (cond t (suc (shared w s)) 0) (suc (length w))) (Ok (suc (length w))) (stuck (cond t (suc (shared w s)) 0)) ≡ cond t (after 1 (spelled w nothing s)) (stuck 0)
     go true h = rw (eqb-suc-suc (shared w s) (length w)) (one_whole (eqb (shared w s) (length w)) (length w) (shared w s) ∙ ap (after 1) h)
     go false h = cond-false _ _ _ (eqb-zero-suc (length w))
 
@@ -76,7 +74,7 @@ behind_spelled (a ∷ w) g [] = cond-true _ _ _ (lt-ltb 0 (suc (length w)) (omeg
 behind_spelled (a ∷ w) g (b ∷ s) = go (eqb a b) (behind_spelled w g s)
   where
     go : (t : Bool) → behind_word w g s ≡ spelled w g s
-        → cond (ltb (cond t (suc (shared w s)) 0) (suc (length w))) (Stuck (cond t (suc (shared w s)) 0)) (after (suc (length w)) (g (drop (length w) s))) ≡ cond t (after 1 (spelled w g s)) (Stuck 0)
+        → cond (ltb (cond t (suc (shared w s)) 0) (suc (length w))) (stuck (cond t (suc (shared w s)) 0)) (after (suc (length w)) (g (drop (length w) s))) ≡ cond t (after 1 (spelled w g s)) (stuck 0)
     go true h = rw (leb-suc-suc (suc (shared w s)) (length w)) (one_behind (ltb (shared w s) (length w)) (length w) (shared w s) (g (drop (length w) s)) ∙ ap (after 1) h)
     go false h = cond-true _ _ _ (lt-ltb 0 (suc (length w)) (omega arith))
 

@@ -1,9 +1,7 @@
 -- Reading a line of a sheet from the front: what is got, and what is left. Assumes nothing.
-use Rattle.std.specs.Prelude.{ℕ, ◌+◌, List, [], ◌∷◌, take, drop}
+use Rattle.std.specs.Prelude.{ℕ, ◌+◌, List, [], ◌∷◌, take, drop, Ok, Err}
 use Rattle.tokens.specs.declared.extent.FieldKind.{FieldKind}
-use Rattle.tokens.specs.declared.extent.Extent.{Extent}
-use Rattle.tokens.specs.declared.extent.Extent.TheVariants.{Whole, Stuck}
-use Rattle.tokens.specs.Extents.{literal, extent_of}
+use Rattle.tokens.specs.Extents.{Extent, literal, extent_of}
 
 -- what is left of a sheet, and the place of its first byte
 pub record Text : Type 0 where
@@ -33,8 +31,8 @@ past n t = record { rest = drop n t.rest; line = t.line; byte = t.byte + n }
 
 -- the bytes that an extent counts; where it is stuck, refusal 1 at the byte that cannot go on
 abbrev pub taken : Extent → Text → Read Piece
-taken (Whole n) t = got (record { text = take n t.rest; line = t.line; byte = t.byte }) (past n t)
-taken (Stuck n) t = refused 1 t.line (t.byte + n)
+taken (Ok n) t = got (record { text = take n t.rest; line = t.line; byte = t.byte }) (past n t)
+taken (Err e) t = refused 1 t.line (t.byte + e.after)
 
 -- a word that has to stand here
 abbrev pub word : List ℕ → Text → Read Piece

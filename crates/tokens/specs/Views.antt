@@ -19,7 +19,7 @@ part_of (Key p) = piece p
 
 -- what a cursor has before it
 abbrev pub before : Cursor → Text
-before c = record { rest = c.rest.now; line = c.line; byte = c.byte }
+before c = record { rest = c.rest.now; line = c.place.line; byte = c.place.byte }
 
 -- an answer, with the text that the cursor is then before
 abbrev pub answer : {V W : Type 0} → (V → W) → Result V LineFault → Cursor → Read W

@@ -1,9 +1,9 @@
 // How far the front of a text goes as a field of some kind.
 ghost use Rattle.std.specs.Prelude.{◌≡◌, ℕ, ◌<◌, ◌≤◌};
-ghost use Rattle.tokens.specs.Extents.{digit, digits, shared, size, after, literal, one_of, number, positive, signed, width, cyclic_map_word, map_word, extent_of};
+ghost use Rattle.tokens.specs.Extents.{digits, shared, size, after, literal, one_of, number, positive, signed, width, cyclic_map_word, map_word, extent_of};
 
 /// The kinds of field that a line may have.
-#[derive(Clone, Copy)]
+#[derive(Clone, Copy, PartialEq, Eq, Debug)]
 pub enum FieldKind {
     /// A number without a sign.
     Number,
@@ -17,25 +17,17 @@ pub enum FieldKind {
     Map,
 }
 
-/// The bytes at the front of a text that make up a field, or those after which no such field can go on.
-#[derive(Clone, Copy)]
-pub enum Extent {
-    Whole(usize),
-    Stuck(usize),
+/// The bytes at the front of a text after which no field of a kind can go on.
+#[derive(Clone, Copy, PartialEq, Eq, Debug)]
+pub struct Stuck {
+    pub after: usize,
 }
 
 // How many bytes of `word` the text begins with.
 fn shared_bytes(word: &[u8], text: &[u8]) -> usize
     ensures { result ≡ shared word.now text.now }
 {
-    let mut n = 0;
-    while n < word.len() {
-        if n >= text.len() || word[n] != text[n] {
-            return n;
-        }
-        n += 1;
-    }
-    n
+    word.iter().zip(text).take_while(|(w, b)| w == b).count()
 }
 
 // How many digits the text begins with, `most` of them at the most.
@@ -43,45 +35,32 @@ fn leading_digits(most: usize, text: &[u8]) -> usize
     ensures value { result ≡ digits most text.now }
     ensures bound { result ≤ most }
 {
-    let mut n = 0;
-    while n < most {
-        if n >= text.len() || !is_digit(text[n]) {
-            return n;
-        }
-        n += 1;
-    }
-    n
-}
-
-pub(crate) fn is_digit(b: u8) -> bool
-    ensures { result ≡ digit b }
-{
-    48 <= b && b <= 57
+    text.iter()
+        .take(most)
+        .take_while(|b| b.is_ascii_digit())
+        .count()
 }
 
 // What follows `n` bytes that are fine.
-fn moved_on(n: usize, e: Extent) -> Extent
+fn moved_on(n: usize, e: Result<usize, Stuck>) -> Result<usize, Stuck>
     requires { (n < 8) × (size e < 9) }
     ensures { result ≡ after n e }
 {
-    match e {
-        Extent::Whole(k) => Extent::Whole(n + k),
-        Extent::Stuck(k) => Extent::Stuck(n + k),
-    }
+    e.map(|k| n + k).map_err(|e| Stuck { after: n + e.after })
 }
 
-pub(crate) fn literal_extent(word: &[u8], text: &[u8]) -> Extent
+pub(crate) fn literal_extent(word: &[u8], text: &[u8]) -> Result<usize, Stuck>
     ensures { result ≡ literal word.now text.now }
 {
     let n = shared_bytes(word, text);
     if n == word.len() {
-        Extent::Whole(n)
+        Ok(n)
     } else {
-        Extent::Stuck(n)
+        Err(Stuck { after: n })
     }
 }
 
-fn either_extent(word: &[u8], other: &[u8], text: &[u8]) -> Extent
+fn either_extent(word: &[u8], other: &[u8], text: &[u8]) -> Result<usize, Stuck>
     ensures { result ≡ one_of word.now other.now text.now }
 {
     if shared_bytes(word, text) > 0 {
@@ -91,64 +70,56 @@ fn either_extent(word: &[u8], other: &[u8], text: &[u8]) -> Extent
     }
 }
 
-fn number_extent(text: &[u8]) -> Extent
+fn number_extent(text: &[u8]) -> Result<usize, Stuck>
     ensures value { result ≡ number text.now }
     ensures bound { size result < 8 }
 {
-    if text.len() == 0 {
-        return Extent::Stuck(0);
+    if let [b'0', ..] = text {
+        return Ok(1);
     }
-    if text[0] == b'0' {
-        return Extent::Whole(1);
-    }
-    let n = leading_digits(4, text);
-    if n == 0 {
-        Extent::Stuck(0)
-    } else {
-        Extent::Whole(n)
+    match leading_digits(4, text) {
+        0 => Err(Stuck { after: 0 }),
+        n => Ok(n),
     }
 }
 
-fn positive_extent(text: &[u8]) -> Extent
+fn positive_extent(text: &[u8]) -> Result<usize, Stuck>
     ensures value { result ≡ positive text.now }
     ensures bound { size result < 8 }
 {
-    if text.len() > 0 && text[0] == b'0' {
-        return Extent::Stuck(0);
+    match text {
+        [b'0', ..] => Err(Stuck { after: 0 }),
+        _ => number_extent(text),
     }
-    number_extent(text)
 }
 
-fn signed_extent(text: &[u8]) -> Extent
+fn signed_extent(text: &[u8]) -> Result<usize, Stuck>
     ensures { result ≡ signed text.now }
 {
-    if text.len() > 0 && text[0] == b'-' {
-        return moved_on(1, positive_extent(&text[1..]));
+    match text {
+        [b'-', rest @ ..] => moved_on(1, positive_extent(rest)),
+        _ => number_extent(text),
     }
-    number_extent(text)
 }
 
-fn width_extent(text: &[u8]) -> Extent
+fn width_extent(text: &[u8]) -> Result<usize, Stuck>
     ensures value { result ≡ width text.now }
     ensures bound { size result < 9 }
 {
-    if text.len() > 0 && text[0] == b':' {
-        return moved_on(1, number_extent(&text[1..]));
+    match text {
+        [b':', rest @ ..] => moved_on(1, number_extent(rest)),
+        _ => Ok(0),
     }
-    Extent::Whole(0)
 }
 
-fn cyclic_extent(text: &[u8]) -> Extent
+fn cyclic_extent(text: &[u8]) -> Result<usize, Stuck>
     ensures { result ≡ cyclic_map_word text.now }
 {
-    let n = shared_bytes(b"cyclic", text);
-    if n < 6 {
-        return Extent::Stuck(n);
-    }
+    literal_extent(b"cyclic", text)?;
     moved_on(6, width_extent(&text[6..]))
 }
 
-fn map_extent(text: &[u8]) -> Extent
+fn map_extent(text: &[u8]) -> Result<usize, Stuck>
     ensures { result ≡ map_word text.now }
 {
     if shared_bytes(b"one", text) > 0 {
@@ -162,7 +133,7 @@ fn map_extent(text: &[u8]) -> Extent
 
 /// The bytes at the front of a text that make up a field of a kind,
 /// or those after which no such field can go on.
-pub fn extent_of(kind: FieldKind, text: &[u8]) -> Extent
+pub fn extent_of(kind: FieldKind, text: &[u8]) -> Result<usize, Stuck>
     ensures { result ≡ extent_of kind text.now }
 {
     match kind {

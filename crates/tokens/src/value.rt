@@ -3,7 +3,6 @@ ghost use Rattle.std.specs.Prelude.{◌≡◌, ◌≤◌};
 ghost use Rattle.tokens.specs.Values.{magnitude, written, begins_with};
 ghost use Rattle.tokens.specs.Views.{piece, part_of};
 
-use crate::extent::is_digit;
 use crate::part::{Part, Token};
 
 /// A number that no field can write.
@@ -13,19 +12,20 @@ fn with_digit(value: usize, b: u8) -> usize
     requires { value ≤ 10000 }
     ensures { result ≡ written value b }
 {
-    if is_digit(b) {
-        CAP.min(10 * value + usize::from(b - 48))
+    if b.is_ascii_digit() {
+        CAP.min(10 * value + usize::from(b - b'0'))
     } else {
         value
     }
 }
 
+#[tactic(auto, using(crate::proofs::Numbers::written_capped, crate::proofs::Numbers::magnitude_more, crate::proofs::Numbers::magnitude_all))]
 fn written_number(text: &[u8]) -> usize
     ensures { result ≡ magnitude text.now }
 {
     let mut value = 0;
-    for b in text {
-        value = with_digit(value, *b);
+    for &b in text {
+        value = with_digit(value, b);
     }
     value
 }
@@ -36,9 +36,7 @@ impl<'a> Token<'a> {
         ensures { piece result ≡ part_of self.entry }
     {
         match self {
-            Token::Number(part) => part,
-            Token::Word(part) => part,
-            Token::Key(part) => part,
+            Token::Number(part) | Token::Word(part) | Token::Key(part) => part,
         }
     }
 
@@ -53,7 +51,6 @@ impl<'a> Token<'a> {
     pub fn begins_with(self, b: u8) -> bool
         ensures { result ≡ begins_with b (part_of self.entry).text }
     {
-        let text = self.part().text;
-        text.len() > 0 && text[0] == b
+        matches!(self.part().text, [first, ..] if *first == b)
     }
 }

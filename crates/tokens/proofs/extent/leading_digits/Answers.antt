@@ -1,24 +1,15 @@
-use Rattle.std.proofs.Common.{◌≡◌, sym, arith}
-use Rattle.tokens.proofs.Fronts.{digits_more, digits_end, digits_out, digits_full}
-use Rattle.tokens.specs.Extents.{digits}
+use Rattle.std.proofs.Common.{◌∙◌, take, rules, tests}
+use Rattle.std.proofs.lemmas.Iterator.{YieldsList-from_slice, YieldsList-from_take}
+use Rattle.std.proofs.lemmas.Iterator.Consumers.{count_from_yields_List}
+use Rattle.std.proofs.lemmas.Iterator.Search.{YieldsList-from_take_while}
+use Rattle.std.proofs.lemmas.List.Folds.{length-prefix_len}
+use Rattle.tokens.specs.Extents.{digit}
+use Rattle.tokens.proofs.Fronts.{digits_taken}
 use Rattle.tokens.proofs.extent.leading_digits.Goals as goal
-use Rattle.tokens.proofs.extent.leading_digits.Goals.{then-n-text-via-then-n-text, then-n-text-via-else-n-text+then-not-is_digit}
 
-stopped : (c : goal.Joined-then-n-text) → c.loop-n.n ≡ digits c.args.most c.args.text.now
-stopped c =
-    elim c.then-n-text.branch [
-      | then-n-text-via-then-n-text w ↦ digits_out _ _ _ c.loop-n.invariant.1 c.loop-n-test.true w.if-n-text.true
-      | then-n-text-via-else-n-text+then-not-is_digit w ↦ digits_end _ _ _ c.loop-n.invariant.1 c.loop-n-test.true w.if-n-text.false (sym w.if-not-is_digit.ensures)
-    ]
-
-pub returns-then-n-text : goal.returns-then-n-text
-returns-then-n-text c = record { value = stopped c; bound = c.loop-n.invariant.0 }
-
-pub loop-n-preserved : goal.loop-n-preserved
-loop-n-preserved c = (
-  omega arith,
-  digits_more _ _ _ c.loop-n.invariant.1 c.loop-n-test.true c.if-n-text.false (sym c.if-not-is_digit.ensures),
-)
-
-pub returns : goal.returns
-returns c = record { value = digits_full _ _ _ c.loop-n.invariant.1 c.loop-n-test.false; bound = c.loop-n.invariant.0 }
+pub returns-clause-value : goal.returns-clause-value
+returns-clause-value c =
+    count_from_yields_List c.take_while.result _ c.count.ensures.ran
+    (YieldsList-from_take_while _ digit (YieldsList-from_take c.args.most (YieldsList-from_slice c.args.text.now cc) cc) c.take_while.ensures.closure c.take_while.ensures.done (λ x b q k. search (rules, tests)))
+    ∙ length-prefix_len digit (take c.args.most c.args.text.now)
+    ∙ digits_taken c.args.most c.args.text.now

@@ -1,20 +1,14 @@
-use Rattle.std.proofs.Common.{arith}
-use Rattle.tokens.proofs.Fronts.{shared_more, shared_differs, shared_out, shared_all}
+use Rattle.std.proofs.Common.{eqb, zip, ◌∙◌, rules, tests}
+use Rattle.std.proofs.lemmas.Iterator.{YieldsList-from_slice, YieldsList-from_zip}
+use Rattle.std.proofs.lemmas.Iterator.Consumers.{count_from_yields_List}
+use Rattle.std.proofs.lemmas.Iterator.Search.{YieldsList-from_take_while}
+use Rattle.std.proofs.lemmas.List.Folds.{length-prefix_len}
+use Rattle.tokens.proofs.Fronts.{shared_zip}
 use Rattle.tokens.proofs.extent.shared_bytes.Goals as goal
-use Rattle.tokens.proofs.extent.shared_bytes.Goals.{then-n-text-via-then-n-text, then-n-text-via-else-n-text+then-word-n}
-
-pub returns-then-n-text : goal.returns-then-n-text
-returns-then-n-text c =
-    elim c.then-n-text.branch [
-      | then-n-text-via-then-n-text w ↦ shared_out _ _ _ c.loop-n.invariant.1 c.loop-n-test.true w.if-n-text.true
-      | then-n-text-via-else-n-text+then-word-n w ↦ shared_differs _ _ _ c.loop-n.invariant.1 c.loop-n-test.true w.if-n-text.false w.if-word-n.true
-    ]
-
-pub loop-n-preserved : goal.loop-n-preserved
-loop-n-preserved c = (
-  omega arith,
-  shared_more _ _ _ c.loop-n.invariant.1 c.loop-n-test.true c.if-n-text.false c.if-word-n.false,
-)
 
 pub returns : goal.returns
-returns c = shared_all _ _ _ c.loop-n.invariant.1 c.loop-n-test.false
+returns c =
+    count_from_yields_List c.take_while.result _ c.count.ensures.ran
+    (YieldsList-from_take_while _ (λ p. eqb p.0 p.1) (YieldsList-from_zip (YieldsList-from_slice c.args.word.now cc) (YieldsList-from_slice c.args.text.now cc)) c.take_while.ensures.closure c.take_while.ensures.done (λ x b q k. search (rules, tests)))
+    ∙ length-prefix_len (λ p. eqb p.0 p.1) (zip c.args.word.now c.args.text.now)
+    ∙ shared_zip c.args.word.now c.args.text.now
