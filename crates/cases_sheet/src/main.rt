@@ -6,17 +6,16 @@ mod written;
 use nest::fault::SheetFault;
 use nest::nest::Nest;
 use nest::terms::Statement;
+use nest::told::Told;
 use sheet::reader::read_sheet;
 use std::{env, fs, io};
-use written::{print_access, print_array, print_mode};
+use written::{print_access, print_array};
 
 fn print_statement(rt: &HostRuntime, s: &Statement) -> io::Result<()> {
     let (i_low, i_high) = (s.i.low, s.i.high);
     let (j_low, j_high) = (s.j.low, s.j.high);
-    let base = s.base;
-    print!(rt; " stmt=")?;
-    print_mode(rt, s.mode)?;
-    print!(rt; ",{i_low},{i_high},{j_low},{j_high} put=")?;
+    let (mode, base) = (s.mode, s.base);
+    print!(rt; " stmt={mode},{i_low},{i_high},{j_low},{j_high} put=")?;
     print_access(rt, s.put, false)?;
     print!(rt; " base={base}")?;
     for r in s.reads.iter() {
@@ -44,8 +43,8 @@ fn print_nest(rt: &HostRuntime, nest: &Nest) -> io::Result<()> {
 }
 
 fn print_fault(rt: &HostRuntime, fault: SheetFault) -> io::Result<()> {
-    let line = fault.told().line_of(rt.alloc())?;
-    println!(rt; "{line}")
+    let told = Told::from(fault);
+    println!(rt; "{told}")
 }
 
 fn run(rt: &HostRuntime) -> anyhow::Result<()> {

@@ -1,32 +1,9 @@
 // Says what a sheet describes.
-ghost use Rattle.std.specs.Prelude.{◌≡◌, ◌+◌, ◌-◌, ◌<◌, ◌≤◌, IfOk, string_bytes};
-ghost use Rattle.facetribbon.specs.Words.{map_text, mode_text};
+ghost use Rattle.std.specs.Prelude.{◌≡◌, ◌+◌, ◌-◌, ◌<◌, ◌≤◌};
 
 use nest::nest::Nest;
-use nest::terms::{Array, MapWord, Mode, Range, Statement};
-use std::alloc::{AllocError, Global};
+use nest::terms::{Array, Range, Statement};
 use std::io;
-
-// A map, as a sheet writes it.
-fn map_text(heap: Global, word: MapWord) -> Result<String, AllocError>
-    ensures { IfOk result (λ s. string_bytes s ≡ map_text word) }
-{
-    match word {
-        MapWord::One => String::from_str(heap, "one"),
-        MapWord::Block => String::from_str(heap, "block"),
-        MapWord::Cyclic => String::from_str(heap, "cyclic"),
-        MapWord::CyclicBy(k) => format!(in heap; "cyclic:{k}"),
-    }
-}
-
-fn mode_text(mode: Mode) -> &'static str
-    ensures { result.now ≡ mode_text mode }
-{
-    match mode {
-        Mode::All => "all",
-        Mode::Seq => "seq",
-    }
-}
 
 // How many values a range has; no range of a nest is past the cap.
 fn count_of(range: Range) -> usize
@@ -36,15 +13,17 @@ fn count_of(range: Range) -> usize
 }
 
 fn describe_array(rt: &HostRuntime, number: usize, array: &Array) -> io::Result<()> {
-    let rows = array.rows;
-    let columns = array.columns;
-    let by_rows = map_text(rt.alloc(), array.row_map)?;
-    let by_columns = map_text(rt.alloc(), array.column_map)?;
-    println!(rt; "array {number}: {rows} x {columns}, rows {by_rows}, columns {by_columns}")
+    let Array {
+        rows,
+        columns,
+        row_map,
+        column_map,
+    } = *array;
+    println!(rt; "array {number}: {rows} x {columns}, rows {row_map}, columns {column_map}")
 }
 
 fn describe_statement(rt: &HostRuntime, number: usize, statement: &Statement) -> io::Result<()> {
-    let mode = mode_text(statement.mode);
+    let mode = statement.mode;
     let iterations = count_of(statement.i).saturating_mul(count_of(statement.j));
     let reads = statement.reads.len();
     println!(rt; "statement {number}: {mode}, {iterations} iterations, {reads} reads")

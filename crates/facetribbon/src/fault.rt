@@ -4,8 +4,9 @@ ghost use Rattle.nest.specs.declared.fault.SheetFault.TheVariants.{NoMemory};
 ghost use Rattle.facetribbon.specs.declared.fault.Fault.TheVariants.{Sheet, Run, Io};
 
 use nest::fault::SheetFault;
+use nest::told::Told;
 use sequential::refusal::RunRefusal;
-use std::alloc::{AllocError, Global};
+use std::alloc::AllocError;
 use std::io;
 
 /// The program's fault. What the reader found stands inside it unchanged.
@@ -50,12 +51,12 @@ impl From<io::Error> for Fault {
 
 impl Fault {
     /// Prints a refusal; hands on what is no refusal.
-    pub(crate) fn report(self, rt: &HostRuntime, heap: Global) -> io::Result<()> {
+    pub(crate) fn report(self, rt: &HostRuntime) -> io::Result<()> {
         match self {
             Fault::Sheet(SheetFault::NoMemory) => Err(io::Error::from(io::ErrorKind::OutOfMemory)),
             Fault::Sheet(fault) => {
-                let line = fault.told().line_of(heap)?;
-                println!(rt; "{line}")
+                let told = Told::from(fault);
+                println!(rt; "{told}")
             }
             Fault::Run(refusal) => {
                 let number = refusal.number();

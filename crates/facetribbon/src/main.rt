@@ -28,6 +28,6 @@ fn main(rt: HostRuntime) -> io::Result<()> {
     let heap = rt.alloc();
     match run(&rt, heap) {
         Ok(()) => Ok(()),
-        Err(fault) => fault.report(&rt, heap),
+        Err(fault) => fault.report(&rt),
     }
 }

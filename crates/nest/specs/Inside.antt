@@ -4,9 +4,8 @@ use Rattle.std.specs.List.{AllByRecursion}
 use Rattle.nest.specs.declared.terms.Array.{Array}
 use Rattle.nest.specs.declared.terms.Range.{Range}
 use Rattle.nest.specs.declared.terms.Variable.{Variable}
-use Rattle.nest.specs.declared.terms.Variable.TheVariants.{I, J}
 use Rattle.nest.specs.declared.terms.Access.{Access}
-use Rattle.nest.specs.Terms.{position, nowhere, Said, Sheet}
+use Rattle.nest.specs.Terms.{pick, position, nowhere, Said, Sheet}
 
 -- a value that a range runs through
 abbrev pub RunsThrough : Range → ℕ → Type 0
@@ -14,8 +13,7 @@ RunsThrough r v = (r.low ≤ v) × (v ≤ r.high)
 
 -- the value of a variable in the iteration i, j
 abbrev pub value_of : Variable → ℕ → ℕ → ℕ
-value_of I i j = i
-value_of J i j = j
+value_of v i j = pick v i j
 
 -- a position from 1 to a size
 abbrev pub Within : ℕ → ℕ → Type 0

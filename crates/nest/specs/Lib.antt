@@ -1,5 +1,6 @@
 pub mod Terms
 pub mod Faults
+pub mod Words
 pub mod Views
 pub mod Sound
 pub mod Nests

@@ -27,10 +27,23 @@ moved (Minus c) n = n - c
 abbrev pub position : Subscript → ℕ → ℕ
 position s v = moved s.offset (s.factor * v)
 
+-- what a number becomes before anything is taken away from it
+abbrev pub raised : Offset → ℕ → ℕ
+raised (Plus c) n = n + c
+raised (Minus c) n = n
+
+-- the greatest number on the way to the position that a subscript names
+abbrev pub reach : Subscript → ℕ → ℕ
+reach s v = raised s.offset (s.factor * v)
+
+-- of what belongs to i and what belongs to j, what belongs to a variable
+abbrev pub pick : {X : Type 0} → Variable → X → X → X
+pick I i j = i
+pick J i j = j
+
 -- the range that a variable runs through
 abbrev pub range_of : Variable → Range → Range → Range
-range_of I i j = i
-range_of J i j = j
+range_of v i j = pick v i j
 
 -- positions grow with the variable, so the ends decide whether all lie from 1 to size
 abbrev pub inside : Range → Range → ℕ → Subscript → Bool
