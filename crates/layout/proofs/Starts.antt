@@ -1,6 +1,10 @@
 -- Where arrays begin, and the places behind that. Assumes nothing.
-use Rattle.std.proofs.Common.{◌≡◌, ℕ, zero, suc, ◌+◌, ◌-◌, ◌*◌, ◌<◌, ◌≤◌, true, ◌≢◌, List, [], ◌∷◌, length, get_or, set, refl, ap, ◌∙◌, ⊎_elim, arith, get_or-set_other, get_or-set_same}
+use Rattle.std.proofs.Common.{◌≡◌, ℕ, zero, suc, ◌+◌, ◌-◌, ◌*◌, ◌<◌, ◌≤◌, true, ◌≢◌, List, [], ◌∷◌, length, get_or, set, refl, ap, ◌∙◌, ⊎_elim, arith, get_or-set_other, get_or-set_same, Some, false, is_le, nat_cmp}
 use Rattle.std.proofs.lemmas.Nat.{mul-le}
+use Rattle.std.proofs.lemmas.Map.Keys.{le_from_is_le}
+use Rattle.std.proofs.lemmas.Bool.Decides.{nat_tests}
+use Rattle.std.specs.Range.{range_inclusive_start, range_inclusive_end, range_inclusive_exhausted, range_inclusive_contains}
+use Rattle.std.specs.declared.ops.RangeInclusive.{RangeInclusive}
 use Rattle.std.proofs.lemmas.Bool.{and_parts, cases_order}
 use Rattle.nest.specs.declared.terms.Grid.{Grid}
 use Rattle.nest.specs.declared.terms.Array.{Array}
@@ -19,6 +23,17 @@ pub element_there : (arrays : List Array) (t x y : ℕ) → t < length arrays �
 element_there [] t x y h p q r s = omega arith
 element_there (a ∷ more) zero x y h p q r s = (p, q, r, s)
 element_there (a ∷ more) (suc t) x y h p q r s = element_there more t x y (omega arith) p q r s
+
+le_is : (a b : ℕ) → a ≤ b → is_le (nat_cmp a b) ≡ true
+le_is a b h = grind (arith, nat_tests)
+
+-- what a test for a range from 1 answers
+pub in_from_one : (s : RangeInclusive ℕ) (high x : ℕ) → range_inclusive_start s ≡ 1 → range_inclusive_end s ≡ high → range_inclusive_exhausted s ≡ false → 1 ≤ x → x ≤ high
+    → range_inclusive_contains (λ a b. Some (nat_cmp a b)) s x ≡ true
+in_from_one s high x low up fresh p q = rw (low, up, fresh, le_is 1 x p, le_is x high q) refl
+
+pub from_in_range : (low high first last x : ℕ) → low ≡ first → high ≡ last → (is_le (nat_cmp low x) ≡ true) × (is_le (nat_cmp x high) ≡ true) → (first ≤ x) × (x ≤ last)
+from_in_range low high first last x p q t = (omega (arith, le_from_is_le low x t.0), omega (arith, le_from_is_le x high t.1))
 
 -- a place is counted from where its array begins
 pub place_is : (arrays : List Array) (t x y : ℕ) → t < length arrays → place_of arrays t x y ≡ start_of arrays t + (x - 1) * (array_at arrays t).columns + (y - 1)

@@ -44,11 +44,8 @@ impl<'a> Layout<'a> {
     pub fn place(&self, array: usize, row: usize, column: usize) -> Option<usize>
         ensures { MatchOption result (IsElement self.now.arrays.now array row column → ⊥) (λ k. IsElement self.now.arrays.now array row column × (k ≡ place_of self.now.arrays.now array row column)) }
     {
-        if array >= self.arrays.len() {
-            return None;
-        }
-        let Array { rows, columns, .. } = self.arrays[array];
-        if row < 1 || rows < row || column < 1 || columns < column {
+        let Array { rows, columns, .. } = *self.arrays.get(array)?;
+        if !(1..=rows).contains(&row) || !(1..=columns).contains(&column) {
             return None;
         }
         Some(self.starts[array] + (row - 1) * columns + (column - 1))

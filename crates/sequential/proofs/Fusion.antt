@@ -4,9 +4,8 @@ use Rattle.std.proofs.lemmas.List.{get_or-set_other}
 use Rattle.nest.specs.Terms.{Said}
 use Rattle.nest.specs.declared.terms.ReadTerm.{ReadTerm}
 use Rattle.sequential.specs.declared.iteration.Iteration.{Iteration}
-use Rattle.sequential.specs.declared.work.Work.TheVariants.{Hold, Store, HoldAndStore}
 use Rattle.sequential.specs.Iterations.{place_in}
-use Rattle.sequential.specs.Run.{Setting, Buffers, buffers_of, with_term, value_in, target_in, hold, store, doing}
+use Rattle.sequential.specs.Run.{Setting, Buffers, buffers_of, with_term, value_in, target_in, hold, store, doing, Hold, Store, HoldAndStore}
 use Rattle.sequential.specs.Laws.{In, Distinct}
 
 -- a value does not depend on a place that is not read

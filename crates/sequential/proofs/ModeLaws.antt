@@ -8,9 +8,8 @@ use Rattle.nest.specs.declared.terms.Mode.TheVariants.{All, Seq}
 use Rattle.layout.specs.Places.{total}
 use Rattle.layout.proofs.PlaceLaws.{place_alone}
 use Rattle.sequential.specs.declared.iteration.Iteration.{Iteration}
-use Rattle.sequential.specs.declared.work.Work.TheVariants.{Hold}
 use Rattle.sequential.specs.Iterations.{iterations, position_in}
-use Rattle.sequential.specs.Run.{Setting, setting_of, Buffers, target_in, value_in, doing, after_statement}
+use Rattle.sequential.specs.Run.{Setting, setting_of, Buffers, target_in, value_in, doing, after_statement, Hold}
 use Rattle.sequential.specs.Laws.{In, with_mode, StoredTogether, ReadsOthers, ModesMean}
 use Rattle.sequential.proofs.Kept.{Parts, parts_of, reached, target_reached}
 use Rattle.sequential.proofs.Targets.{in_iterations, targets_apart, target_below}

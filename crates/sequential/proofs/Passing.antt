@@ -3,8 +3,7 @@ use Rattle.std.proofs.Common.{◌≡◌, ℕ, ◌<◌, List, [], ◌∷◌, map,
 use Rattle.std.proofs.lemmas.List.{length-set, get_or-set_same, get_or-set_other}
 use Rattle.nest.specs.Terms.{Said}
 use Rattle.sequential.specs.declared.iteration.Iteration.{Iteration}
-use Rattle.sequential.specs.declared.work.Work.TheVariants.{Hold, Store}
-use Rattle.sequential.specs.Run.{Setting, Buffers, value_in, target_in, hold, store, doing}
+use Rattle.sequential.specs.Run.{Setting, Buffers, value_in, target_in, hold, store, doing, Hold, Store}
 use Rattle.sequential.specs.Laws.{In, Distinct}
 
 module _ {V : Type 0} (k : Setting V) (s : Said) where

@@ -11,11 +11,10 @@ use Rattle.nest.specs.declared.terms.Array.{Array}
 use Rattle.nest.specs.declared.terms.Mode.TheVariants.{All, Seq}
 use Rattle.nest.specs.declared.terms.Statement.{Statement}
 use Rattle.layout.specs.Places.{total}
-use Rattle.sequential.specs.declared.work.Work.TheVariants.{Hold, Store, HoldAndStore}
 use Rattle.sequential.specs.Iterations.{iterations}
-use Rattle.sequential.specs.Ready.{Ready, AllReady}
+use Rattle.sequential.specs.Ready.{AllReady}
 use Rattle.sequential.specs.Refusals.{lengths_fit}
-use Rattle.sequential.specs.Run.{Setting, setting_of, Buffers, doing, in_mode, after_statement, after_sweep, after_sweeps}
+use Rattle.sequential.specs.Run.{Setting, setting_of, Buffers, doing, in_mode, after_statement, after_sweep, after_sweeps, Hold, Store, HoldAndStore}
 use Rattle.sequential.proofs.Kept.{each_at}
 
 -- a FORALL is two passes, a DO is one
@@ -30,17 +29,11 @@ pub seq_is : {V : Type 0} (k : Setting V) (s : Said) (b after : Buffers V) → s
 seq_is k s b after is whole = whole ∙ ap (λ m. in_mode m k s (iterations s.i s.j) b) (sym is)
 
 -- one statement of a list
-pub statement_ready : (arrays : List Array) (items : List Statement) (n : ℕ) (item : Statement) (coefficients elements held e h : ℕ)
-    → AllReady arrays (map said items) coefficients elements held → n < length items → item ≡ get_or items n item → e ≡ elements → h ≡ held
-    → Ready arrays (said item) coefficients e h
-statement_ready arrays items n item coefficients elements held e h all below is p q =
+pub statement_at : (arrays : List Array) (items : List Statement) (n : ℕ) (item : Statement)
+    → each (statement_kept arrays) (map said items) ≡ true → n < length items → item ≡ get_or items n item → statement_kept arrays (said item) ≡ true
+statement_at arrays items n item all below is =
     let lies : get_or (map said items) n (said item) ≡ said item = get_or-map said items n item (said item) below ∙ ap said (sym is) in
-    record {
-      kept = ap (statement_kept arrays) (sym lies) ∙ each_at (statement_kept arrays) (map said items) n (said item) all.kept (rw (length-map items said) below);
-      eight = all.eight;
-      elements_all = p ∙ all.elements_all;
-      held_all = q ∙ all.held_all;
-    }
+    ap (statement_kept arrays) (sym lies) ∙ each_at (statement_kept arrays) (map said items) n (said item) all (rw (length-map items said) below)
 
 pub sweep_more : {B : Type 0} (f : B → Said → B) (b : B) (items : List Statement) (n : ℕ) (item : Statement) (before after : B)
     → n < length items → item ≡ get_or items n item → before ≡ fold f b (map said (take n items)) → after ≡ f before (said item)

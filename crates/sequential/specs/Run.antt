@@ -6,8 +6,6 @@ use Rattle.nest.specs.declared.terms.Mode.{Mode}
 use Rattle.nest.specs.declared.terms.Mode.TheVariants.{All, Seq}
 use Rattle.nest.specs.declared.terms.ReadTerm.{ReadTerm}
 use Rattle.sequential.specs.declared.iteration.Iteration.{Iteration}
-use Rattle.sequential.specs.declared.work.Work.{Work}
-use Rattle.sequential.specs.declared.work.Work.TheVariants.{Hold, Store, HoldAndStore}
 use Rattle.sequential.specs.Iterations.{iterations, place_in}
 
 -- what stays as it is in a run: how values are added and multiplied, the coefficients by their numbers, the arrays;
@@ -56,6 +54,12 @@ store k s b e =
 -- both for one iteration, before the next begins
 abbrev pub hold_and_store : {V : Type 0} → Setting V → Said → Buffers V → Iteration → Buffers V
 hold_and_store k s b e = store k s (hold k s b e) e
+
+-- the words for what is done in an iteration
+pub data Work : Type 0 where
+  Hold : Work
+  Store : Work
+  HoldAndStore : Work
 
 -- what is done in an iteration, by the word for it
 abbrev pub doing : {V : Type 0} → Work → Setting V → Said → Buffers V → Iteration → Buffers V

@@ -4,7 +4,7 @@
 //! - `statements`, `passes`, `steps`, `values`, `places`: sweep and statement, all iterations, one iteration, its
 //!   value, where its elements lie
 //! - `laws`: what FORALL and DO mean, and a worked sample
-//! - `iteration`, `work`: an iteration, and what is done in it
+//! - `iteration`, `running`: an iteration, and a statement as it is run
 #![tactic(auto)]
 
 pub mod iteration;
@@ -13,7 +13,7 @@ mod passes;
 mod places;
 pub mod refusal;
 pub mod run;
+mod running;
 mod statements;
 mod steps;
 mod values;
-pub mod work;

@@ -1,8 +1,0 @@
-use Rattle.std.proofs.Common.{◌≡◌, get_or, take, fold}
-use Rattle.sequential.specs.Run.{setting_of, with_term}
-use Rattle.sequential.proofs.values.value_in.Given as goal
-
-abbrev pub invariant-loop-term : goal.invariant-loop-term
-invariant-loop-term g l =
-    (d : g.row.T.Denot)
-    → l.value ≡ fold (with_term (setting_of g.T.NumberKind.sum g.T.NumberKind.product l.coefficients l.layout.arrays.now d) l.elements l.at) (get_or l.coefficients l.statement.base d) (take l.term-index l.reads)
