@@ -1,9 +1,12 @@
 -- The pair's complete list, and where it ends.
-use Rattle.std.proofs.Common.{◌≡◌, ℕ, zero, suc, Bool, List, [], ◌∷◌, get_or, None, Option, refl, ap, ◌∙◌, ap₂, arith}
+use Rattle.std.proofs.Common.{◌≡◌, ℕ, zero, suc, Bool, List, [], ◌∷◌, get_or, None, sym, refl, ap, ◌∙◌, arith}
+use Rattle.std.proofs.Math.ListN.{get_or-map}
 use Rattle.network.specs.Network.{State}
 use Rattle.network.specs.Request.{joined, without_oldest, taking, able, decide, replaced, changed, moved, answer, leaves, request}
 use Rattle.network.specs.Runs.{state_after, Complete, AllEnded}
 use Rattle.network.specs.Slots.{one_way, held_by}
+use Rattle.network.specs.Desks.{desk, owns, letters}
+use Rattle.network.specs.declared.desk.Desk.{Desk}
 use Rattle.network.specs.Exchange.{partner, exchanging, exchange, exchange_state}
 use Rattle.network.specs.declared.pair.Phase.TheVariants.{Putting, Done}
 use Rattle.network.specs.declared.pair.Partner.{Partner}
@@ -30,17 +33,17 @@ pub exchange_ends : (first second : ℕ)
 unfolding state_after request decide able taking answer leaves moved replaced changed joined without_oldest held_by one_way exchange exchanging
 exchange_ends first second = (refl, refl)
 
--- The same of lists that are the start by an equation, and what a driver then leaves.
-module _ (boards : List Partner) (letters : List (Option ℕ)) (first second : ℕ)
-    (b : boards ≡ partner Putting first ∷ partner Putting second ∷ []) (l : letters ≡ None ∷ None ∷ []) where
-  pub completes : Complete (request exchange 1) 2 (exchange_state boards letters) turns
-  completes = rw (b, l) (exchange_completes first second)
-
-  pub both_exchanged : (boards' : List Partner) (letters' : List (Option ℕ)) (told : Bool)
-      → WentRound exchange 1 (exchange_state boards letters) (exchange_state boards' letters') told
-      → ((get_or boards' 0 (partner Putting 0)).value ≡ second) × ((get_or boards' 1 (partner Putting 0)).value ≡ first)
-  unfolding exchange held_by
-  both_exchanged boards' letters' told went =
-      let there = (went.reaches_end 1 turns (omega arith) completes).1 ∙ ap₂ (λ x y. state_after (request exchange 1) (exchange_state x y) turns) b l in
-      let ends = exchange_ends first second in
-      (ap (λ s. (s.own 0).value) there ∙ ap (λ x. x.value) ends.0, ap (λ s. (s.own 1).value) there ∙ ap (λ x. x.value) ends.1)
+-- What a driver leaves, of desks that are the start by an equation.
+pub both_exchanged : {desks : List (Desk Partner)} {first second : ℕ} {told : Bool} (desks' : List (Desk Partner))
+    → desks ≡ desk (partner Putting first) None ∷ desk (partner Putting second) None ∷ []
+    → WentRound exchange 1 (exchange_state (owns desks) (letters desks)) (exchange_state (owns desks') (letters desks')) told
+    → ((get_or desks' 0 (desk (partner Putting 0) None)).own.value ≡ second) × ((get_or desks' 1 (desk (partner Putting 0) None)).own.value ≡ first)
+unfolding exchange held_by
+both_exchanged {desks} {first} {second} {told} desks' e went =
+    let begun : WentRound exchange 1 (start first second) (exchange_state (owns desks') (letters desks')) told = rw e at went in
+    let there = (begun.reaches_end 1 turns (omega arith) (exchange_completes first second)).1 in
+    let ends = exchange_ends first second in
+    let idle = desk (partner Putting 0) None in (
+      ap (λ x. x.value) (sym (get_or-map (λ d. d.own) desks' 0 idle) ∙ ap (λ s. s.own 0) there ∙ ends.0),
+      ap (λ x. x.value) (sym (get_or-map (λ d. d.own) desks' 1 idle) ∙ ap (λ s. s.own 1) there ∙ ends.1),
+    )

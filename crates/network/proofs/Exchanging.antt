@@ -1,65 +1,60 @@
--- The cases of a request to the pair, in terms of the two lists that hold it.
-use Rattle.std.proofs.Common.{◌≡◌, ℕ, ◌<◌, ◌≤◌, List, [], length, get_or, set, Some, None, Option, refl, ap, arith}
-use Rattle.std.specs.Option.{option_to_list}
-use Rattle.network.specs.Request.{joined}
+-- The cases of a request to the pair.
+use Rattle.std.proofs.Common.{◌≡◌, ℕ, ◌<◌, ◌≤◌, List, length, get_or, set, Some, None, Option, ap, arith}
 use Rattle.network.specs.Exchange.{partner, other, exchanging, exchange, phases_left, partner_left}
+use Rattle.network.specs.Desks.{desk}
 use Rattle.network.specs.declared.answer.Answer.{Answer}
 use Rattle.network.specs.declared.answer.Answer.TheVariants.{Ran, Waiting, Ended, Refused}
+use Rattle.network.specs.declared.desk.Desk.{Desk}
 use Rattle.network.specs.declared.pair.Phase.{Phase}
 use Rattle.network.specs.declared.pair.Phase.TheVariants.{Putting, Taking, Done}
 use Rattle.network.specs.declared.pair.Partner.{Partner}
-use Rattle.network.proofs.Kept as kept
+use Rattle.network.proofs.Desks as at_desks
+use Rattle.network.proofs.Desks.{Line}
 
--- what is read of a board, and of a letter on the way
-abbrev pub at : List Partner → ℕ → Partner
-at boards p = get_or boards p (partner Putting 0)
+abbrev pub pair : Line Partner
+pair = record { network = exchange; to = other; idle = partner Putting 0; weight = partner_left }
 
-abbrev pub letter : List (Option ℕ) → ℕ → Option ℕ
-letter letters p = get_or letters p None
+module _ (desks : List (Desk Partner)) (p : ℕ) where
+  abbrev at : ℕ → Desk Partner
+  at = at_desks.at pair desks p
 
-module _ (boards : List Partner) (letters : List (Option ℕ)) (p : ℕ) where
-  abbrev pub Left : Answer → List Partner → List (Option ℕ) → Type 0
-  Left = kept.Left exchange 1 other option_to_list (partner Putting 0) None partner_left [] boards letters p
+  abbrev pub Left : Answer → List (Desk Partner) → Type 0
+  Left = at_desks.Left pair desks p
 
-  pub told : {a a' : Answer} {boards' boards'' : List Partner} {letters' letters'' : List (Option ℕ)} → Left a boards' letters'
-      → a' ≡ a → boards'' ≡ boards' → letters'' ≡ letters' → Left a' boards'' letters''
-  told = kept.told exchange 1 other option_to_list (partner Putting 0) None partner_left [] boards letters p
-
-  pub refused : 2 ≤ p → Left Refused boards letters
+  pub refused : 2 ≤ p → Left Refused desks
   unfolding exchange
-  refused outside = kept.refused exchange 1 other option_to_list (partner Putting 0) None partner_left [] boards letters p outside
+  refused outside = at_desks.refused pair desks p outside
 
   module _ (inside : p < 2) where
-    next_is : (phase : Phase) → (at boards p).phase ≡ phase → exchange.next p (at boards p) ≡ exchanging p phase (at boards p).value
+    next_is : (phase : Phase) → (at p).own.phase ≡ phase → exchange.next p (at p).own ≡ exchanging p phase (at p).own.value
     unfolding exchange
-    next_is phase e = ap (λ f. exchanging p f (at boards p).value) e
+    next_is phase e = ap (λ f. exchanging p f (at p).own.value) e
 
     there : p ≡ other (other p)
     there = omega arith
 
-    pub ended : (at boards p).phase ≡ Done → Left Ended boards letters
+    pub ended : (at p).own.phase ≡ Done → Left Ended desks
     unfolding exchange exchanging
-    ended e = kept.ended exchange 1 other option_to_list (partner Putting 0) None partner_left [] boards letters p inside (next_is Done e)
+    ended e = at_desks.ended pair desks p inside (next_is Done e)
 
-    pub put_waits : (x : ℕ) → (at boards p).phase ≡ Putting → letter letters p ≡ Some x → Left Waiting boards letters
+    pub put_waits : (y : ℕ) → (at p).own.phase ≡ Putting → (at p).letter ≡ Some y → Left Waiting desks
     unfolding exchange exchanging
-    put_waits x e some =
-        kept.put_waits exchange 1 other option_to_list (partner Putting 0) None partner_left [] boards letters p inside (at boards p).value (partner Taking (at boards p).value) (next_is Putting e) (rw some (omega arith))
+    put_waits y e some = at_desks.put_waits pair desks p inside (at p).own.value y (partner Taking (at p).own.value) (next_is Putting e) some
 
-    pub take_waits : (at boards p).phase ≡ Taking → letter letters (other p) ≡ None → Left Waiting boards letters
+    pub take_waits : (v : Option ℕ) → (at p).own.phase ≡ Taking → (at (other p)).letter ≡ None → v ≡ None
+        → Left Waiting (set desks (other p) (desk (at (other p)).own v))
     unfolding exchange exchanging
-    take_waits e none =
-        kept.take_waits exchange 1 other option_to_list (partner Putting 0) None partner_left [] boards letters p inside (other p) (partner Done) (next_is Taking e) there (ap option_to_list none)
+    take_waits v e none left = at_desks.take_waits pair desks p inside (other p) (partner Done) v (next_is Taking e) there none left
 
-    module _ (two : length boards ≡ 2) (two' : length letters ≡ 2) where
-      pub put_ran : (at boards p).phase ≡ Putting → letter letters p ≡ None
-          → Left Ran (set boards p (partner Taking (at boards p).value)) (set letters p (Some (at boards p).value))
-      unfolding exchange exchanging phases_left joined
-      put_ran e none =
-          kept.put_ran exchange 1 other option_to_list (partner Putting 0) None partner_left [] boards letters p inside (omega arith) (at boards p).value (partner Taking (at boards p).value) (Some (at boards p).value) (omega arith) (next_is Putting e) (rw none (omega arith)) (rw none refl) (rw e (omega arith))
-
-      pub take_ran : (x : ℕ) → (at boards p).phase ≡ Taking → letter letters (other p) ≡ Some x
-          → Left Ran (set boards p (partner Done x)) (set letters (other p) None)
+    module _ (two : length desks ≡ 2) where
+      pub put_ran : (at p).own.phase ≡ Putting → (at p).letter ≡ None
+          → Left Ran (set desks p (desk (partner Taking (at p).own.value) (Some (at p).own.value)))
       unfolding exchange exchanging phases_left
-      take_ran x e some =
-          kept.take_ran exchange 1 other option_to_list (partner Putting 0) None partner_left [] boards letters p inside (omega arith) (other p) (partner Done) x [] None (omega arith) (next_is Taking e) there (ap option_to_list some) refl (rw e (omega arith))
+      put_ran e none =
+          at_desks.put_ran pair desks p inside (omega arith) (at p).own.value (partner Taking (at p).own.value) (next_is Putting e) none (rw e (omega arith))
+
+      pub take_ran : (x : ℕ) (v : Option ℕ) → (at p).own.phase ≡ Taking → (at (other p)).letter ≡ Some x → v ≡ None
+          → (let taken : List (Desk Partner) = set desks (other p) (desk (at (other p)).own v) in Left Ran (set taken p (desk (partner Done x) (get_or taken p (desk (partner Putting 0) None)).letter)))
+      unfolding exchange exchanging phases_left
+      take_ran x v e some left =
+          at_desks.take_ran pair desks p inside (omega arith) (other p) (partner Done) x v (omega arith) (next_is Taking e) there some left (rw e (omega arith))

@@ -2,24 +2,30 @@
 use Rattle.std.proofs.Common.{◌≡◌, ℕ, zero, suc, ◌+◌, ◌<◌, ◌≤◌, Bool, true, false, cond, ◌&&◌, eqb, ◌⊎◌, List, [], ◌∷◌, length, get_or, set, sym, refl, ap, ◌∙◌, subst, inl, inr, arith, get_or-set_other, get_or-set_same}
 use mathlib.Core.Path.{fun_ext}
 use Rattle.std.proofs.lemmas.Bool.{cases_eq, eq-eqb, ne_eqb, cond-true, cond-false}
-use Rattle.network.specs.Network.{ends, goes_on, puts, takes, Network, State}
-use Rattle.network.specs.Request.{replaced, changed, joined, without_oldest, request}
+use Rattle.network.specs.Network.{ends, goes_on, puts, takes, State}
+use Rattle.network.specs.Request.{replaced, changed, joined, without_oldest}
+use Rattle.network.specs.Fixed.{Fixed, asks}
 use Rattle.network.specs.Runs.{is_ran}
 use Rattle.network.specs.Slots.{one_way, held_by, added_up}
 use Rattle.network.specs.declared.answer.Answer.{Answer}
 use Rattle.network.specs.declared.answer.Answer.TheVariants.{Ran, Waiting, Ended, Refused}
 use Rattle.network.proofs.Rules as rule
 
--- What a request of running code promises: from a state s with so many steps left, board p answered a, and left s'.
-abbrev pub Answered : {L S : Type 0} → Network L S → Network L S → ℕ → List ℕ → State L S → ℕ → ℕ → Answer → State L S → ℕ → Type 0
-Answered net net' depth lent s left p a s' left' =
-    record {
-      asked : (a, s') ≡ request net depth s p;
-      same_network : net' ≡ net;
-      same_depth : depth ≡ depth;
-      same_lent : lent ≡ lent;
-      fewer_left : is_ran a + left' ≤ left;
-    }
+-- What a request of running code promises: of boards that are f, from a state s with so many steps left, board p answered a,
+-- and left boards that are f' in s'.
+abbrev pub Answered : {L S : Type 0} → Fixed L S → Fixed L S → State L S → ℕ → ℕ → Answer → State L S → ℕ → Type 0
+Answered f f' s left p a s' left' =
+    record { asked : (a, s') ≡ asks f s p; same : f' ≡ f; fewer_left : is_ran a + left' ≤ left }
+
+-- How code keeps boards: what they are, the one board that each puts to, the letters that a slot stands for, what is read past
+-- the lists' ends, and the steps that a board has left.
+pub record Way (L S C : Type 0) : Type 0 where
+  pub fixed : Fixed L S
+  pub to : ℕ → ℕ
+  pub letters : C → List L
+  pub idle : S
+  pub empty : C
+  pub weight : S → ℕ
 
 own_set : {S : Type 0} (owns : List S) (p : ℕ) (t idle : S) → p < length owns
     → ◌≡◌ {A = ℕ → S} (λ q. get_or (set owns p t) q idle) (replaced p t (λ q. get_or owns q idle))
@@ -67,14 +73,14 @@ added_up_set weight [] p t d h = absurd (omega arith)
 added_up_set weight (x ∷ xs) zero t d h = omega arith
 added_up_set weight (x ∷ xs) (suc p) t d h = omega (arith, added_up_set weight xs p t d (omega arith))
 
-module _ {L S C : Type 0} (net : Network L S) (depth : ℕ) (to : ℕ → ℕ) (letters : C → List L) (idle : S) (empty : C) (weight : S → ℕ) (lent : List ℕ) (owns : List S) (slots : List C) (p : ℕ) where
+module _ {L S C : Type 0} (way : Way L S C) (owns : List S) (slots : List C) (p : ℕ) where
   held : State L S
-  held = held_by to letters idle empty owns slots
+  held = held_by way.to way.letters way.idle way.empty owns slots
 
   -- A request to board p was answered by a, and left the lists owns' and slots'.
   abbrev pub Left : Answer → List S → List C → Type 0
   Left a owns' slots' =
-      Answered net net depth lent (held_by to letters idle empty owns slots) (added_up weight owns) p a (held_by to letters idle empty owns' slots') (added_up weight owns')
+      Answered way.fixed way.fixed (held_by way.to way.letters way.idle way.empty owns slots) (added_up way.weight owns) p a (held_by way.to way.letters way.idle way.empty owns' slots') (added_up way.weight owns')
 
   -- the same, under other names of the answer and the lists
   pub told : {a a' : Answer} {owns' owns'' : List S} {slots' slots'' : List C} → Left a owns' slots'
@@ -82,64 +88,62 @@ module _ {L S C : Type 0} (net : Network L S) (depth : ℕ) (to : ℕ → ℕ) (
   told {a} {a'} {owns'} {owns''} {slots'} {slots''} x e f h =
       subst (λ b. Left b owns'' slots'') (sym e) (subst (λ o. Left a o slots'') (sym f) (subst (Left a owns') (sym h) x))
 
-  unchanged : (a : Answer) → is_ran a ≡ 0 → request net depth held p ≡ (a, held) → Left a owns slots
+  unchanged : (a : Answer) → is_ran a ≡ 0 → asks way.fixed held p ≡ (a, held) → Left a owns slots
   unfolding held
-  unchanged a none e = record { asked = sym e; same_network = refl; same_depth = refl; same_lent = refl; fewer_left = omega (arith, none) }
+  unchanged a none e = record { asked = sym e; same = refl; fewer_left = omega (arith, none) }
 
   -- the row from board i to the board that it puts to
-  row_is : (i j : ℕ) → j ≡ to i → held.row i j ≡ letters (get_or slots i empty)
+  row_is : (i j : ℕ) → j ≡ way.to i → held.row i j ≡ way.letters (get_or slots i way.empty)
   unfolding held held_by one_way
-  row_is i j e = cond-true (eqb j (to i)) (letters (get_or slots i empty)) [] (eq-eqb j (to i) e)
+  row_is i j e = cond-true (eqb j (way.to i)) (way.letters (get_or slots i way.empty)) [] (eq-eqb j (way.to i) e)
 
-  pub refused : net.boards ≤ p → Left Refused owns slots
-  refused outside = unchanged Refused refl (rule.refused net depth held p outside)
+  pub refused : way.fixed.network.boards ≤ p → Left Refused owns slots
+  refused outside = unchanged Refused refl (rule.refused way.fixed.network way.fixed.depth held p outside)
 
-  module _ (inside : p < net.boards) where
-    pub ended : net.next p (get_or owns p idle) ≡ ends → Left Ended owns slots
+  module _ (inside : p < way.fixed.network.boards) where
+    pub ended : way.fixed.network.next p (get_or owns p way.idle) ≡ ends → Left Ended owns slots
     unfolding held held_by
-    ended e = unchanged Ended refl (rule.ended net depth held p inside e)
+    ended e = unchanged Ended refl (rule.ended way.fixed.network way.fixed.depth held p inside e)
 
-    pub put_waits : (x : L) (t : S) → net.next p (get_or owns p idle) ≡ puts (to p) x t → depth ≤ length (letters (get_or slots p empty)) → Left Waiting owns slots
+    pub put_waits : (x : L) (t : S) → way.fixed.network.next p (get_or owns p way.idle) ≡ puts (way.to p) x t → way.fixed.depth ≤ length (way.letters (get_or slots p way.empty)) → Left Waiting owns slots
     unfolding held held_by
     put_waits x t e full =
-        unchanged Waiting refl (rule.put_waits net depth held p (to p) x t inside e (rw (row_is p (to p) refl) full))
+        unchanged Waiting refl (rule.put_waits way.fixed.network way.fixed.depth held p (way.to p) x t inside e (rw (row_is p (way.to p) refl) full))
 
-    pub take_waits : (q : ℕ) (go : L → S) → net.next p (get_or owns p idle) ≡ takes q go → p ≡ to q → letters (get_or slots q empty) ≡ [] → Left Waiting owns slots
+    pub take_waits : (q : ℕ) (go : L → S) → way.fixed.network.next p (get_or owns p way.idle) ≡ takes q go → p ≡ way.to q → way.letters (get_or slots q way.empty) ≡ [] → Left Waiting owns slots
     unfolding held held_by
     take_waits q go e there none =
-        unchanged Waiting refl (rule.take_waits net depth held p q go inside e (row_is q p there ∙ none))
+        unchanged Waiting refl (rule.take_waits way.fixed.network way.fixed.depth held p q go inside e (row_is q p there ∙ none))
 
     module _ (kept : p < length owns) where
-      ran : (t : S) (slots' : List C) (row : ℕ → ℕ → List L) → weight t < weight (get_or owns p idle) → one_way to letters empty slots' ≡ row
-          → request net depth held p ≡ (Ran, record { own = replaced p t (λ q. get_or owns q idle); row = row })
+      ran : (t : S) (slots' : List C) (row : ℕ → ℕ → List L) → way.weight t < way.weight (get_or owns p way.idle) → one_way way.to way.letters way.empty slots' ≡ row
+          → asks way.fixed held p ≡ (Ran, record { own = replaced p t (λ q. get_or owns q way.idle); row = row })
           → Left Ran (set owns p t) slots'
       unfolding held held_by
       ran t slots' row lighter rows e =
-          let own = own_set owns p t idle kept in
+          let own = own_set owns p t way.idle kept in
           record {
             asked = (λ i. (Ran, record { own = own i; row = rows i })) ∙ sym e;
-            same_network = refl;
-            same_depth = refl;
-            same_lent = refl;
-            fewer_left = omega (arith, added_up_set weight owns p t idle kept, lighter);
+            same = refl;
+            fewer_left = omega (arith, added_up_set way.weight owns p t way.idle kept, lighter);
           }
 
-      pub ran_alone : (t : S) → net.next p (get_or owns p idle) ≡ goes_on t → weight t < weight (get_or owns p idle) → Left Ran (set owns p t) slots
+      pub ran_alone : (t : S) → way.fixed.network.next p (get_or owns p way.idle) ≡ goes_on t → way.weight t < way.weight (get_or owns p way.idle) → Left Ran (set owns p t) slots
       unfolding held held_by
       ran_alone t e lighter =
-          ran t slots _ lighter (same_rows p p (one_way to letters empty slots)) (rule.ran_alone net depth held p t inside e)
+          ran t slots _ lighter (same_rows p p (one_way way.to way.letters way.empty slots)) (rule.ran_alone way.fixed.network way.fixed.depth held p t inside e)
 
-      pub put_ran : (x : L) (t : S) (v : C) → p < length slots → net.next p (get_or owns p idle) ≡ puts (to p) x t
-          → length (letters (get_or slots p empty)) < depth → letters v ≡ joined x (letters (get_or slots p empty)) → weight t < weight (get_or owns p idle)
+      pub put_ran : (x : L) (t : S) (v : C) → p < length slots → way.fixed.network.next p (get_or owns p way.idle) ≡ puts (way.to p) x t
+          → length (way.letters (get_or slots p way.empty)) < way.fixed.depth → way.letters v ≡ joined x (way.letters (get_or slots p way.empty)) → way.weight t < way.weight (get_or owns p way.idle)
           → Left Ran (set owns p t) (set slots p v)
       unfolding held held_by
       put_ran x t v k e room joins lighter =
-          ran t (set slots p v) _ lighter (row_set to letters empty slots p v (joined x) k joins) (rule.put_ran net depth held p (to p) x t inside e (rw (row_is p (to p) refl) room))
+          ran t (set slots p v) _ lighter (row_set way.to way.letters way.empty slots p v (joined x) k joins) (rule.put_ran way.fixed.network way.fixed.depth held p (way.to p) x t inside e (rw (row_is p (way.to p) refl) room))
 
       pub take_ran : (q : ℕ) (go : L → S) (x : L) (rest : List L) (v : C) → q < length slots
-          → net.next p (get_or owns p idle) ≡ takes q go → p ≡ to q → letters (get_or slots q empty) ≡ x ∷ rest → letters v ≡ rest → weight (go x) < weight (get_or owns p idle)
+          → way.fixed.network.next p (get_or owns p way.idle) ≡ takes q go → p ≡ way.to q → way.letters (get_or slots q way.empty) ≡ x ∷ rest → way.letters v ≡ rest → way.weight (go x) < way.weight (get_or owns p way.idle)
           → Left Ran (set owns p (go x)) (set slots q v)
       unfolding held held_by without_oldest
       take_ran q go x rest v k e there some left lighter =
-          let rows = row_set to letters empty slots q v without_oldest k (left ∙ ap without_oldest (sym some)) in
-          ran (go x) (set slots q v) _ lighter (rows ∙ ap (λ j. changed q j without_oldest (one_way to letters empty slots)) (sym there)) (rule.take_ran net depth held p q go x rest inside e (row_is q p there ∙ some))
+          let rows = row_set way.to way.letters way.empty slots q v without_oldest k (left ∙ ap without_oldest (sym some)) in
+          ran (go x) (set slots q v) _ lighter (rows ∙ ap (λ j. changed q j without_oldest (one_way way.to way.letters way.empty slots)) (sym there)) (rule.take_ran way.fixed.network way.fixed.depth held p q go x rest inside e (row_is q p there ∙ some))

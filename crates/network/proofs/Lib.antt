@@ -6,6 +6,7 @@ pub mod Going
 pub mod Rounds
 pub mod Rules
 pub mod Kept
+pub mod Desks
 pub mod Exchanging
 pub mod Exchanged
 pub mod Passing

@@ -3,6 +3,7 @@ use Rattle.std.proofs.Common.{◌≡◌, ℕ, suc, Bool, true, eqb, List, sym, r
 use Rattle.std.proofs.lemmas.Bool.{eqb-true, eq-eqb}
 use Rattle.network.specs.Network.{Network, State}
 use Rattle.network.specs.Request.{request}
+use Rattle.network.specs.Fixed.{Fixed, asks}
 use Rattle.network.specs.Runs.{state_after, steps_run, CameTo, AllEnded, in_turn, repeated}
 use Rattle.network.specs.Drivers.{LedByAny, WentRound}
 use Rattle.network.proofs.Asking.{state_after_++, in_turn_names, quiet_tells}
@@ -13,12 +14,11 @@ pub led_by_any : {L S : Type 0} (net : Network L S) (depth : ℕ) (s : State L S
 led_by_any {L} {S} net depth s requests shallower list le whole =
     (deeper_rows_same_end L S net shallower depth s list le whole).led requests
 
--- A round that was asked of boards with the network and the depth that were given.
-pub came_at : {L S : Type 0} {net net' : Network L S} {depth depth' : ℕ} (t u : State L S) (ran ended : ℕ) → net' ≡ net → depth' ≡ depth
-    → CameTo (request net' depth') t (in_turn net'.boards) ran ended u → CameTo (request net depth) t (in_turn net.boards) ran ended u
-came_at {L} {S} {net} {net'} {depth} {depth'} t u ran ended n d c =
-    subst (λ (k : ℕ). CameTo (request net k) t (in_turn net.boards) ran ended u) d
-    (subst (λ (m : Network L S). CameTo (request m depth') t (in_turn m.boards) ran ended u) n c)
+-- A round that was asked of boards which are still what they were.
+pub came_at : {L S : Type 0} {f f' : Fixed L S} {t u : State L S} {ran ended : ℕ} → f' ≡ f
+    → CameTo (asks f') t (in_turn f'.network.boards) ran ended u → CameTo (asks f) t (in_turn f.network.boards) ran ended u
+came_at {L} {S} {f} {f'} {t} {u} {ran} {ended} e c =
+    subst (λ (x : Fixed L S). CameTo (asks x) t (in_turn x.network.boards) ran ended u) e c
 
 module _ {L S : Type 0} (net : Network L S) (depth : ℕ) (s : State L S) where
   -- so many rounds lead from s to t

@@ -1,5 +1,5 @@
--- The cases of a request to the ring, in terms of the two lists that hold it.
-use Rattle.std.proofs.Common.{◌≡◌, ℕ, suc, ◌+◌, ◌-◌, ◌<◌, ◌≤◌, Bool, true, false, eqb, ◌≢◌, List, [], ◌∷◌, length, get_or, set, sym, refl, ap, ◌∙◌, subst, arith}
+-- The cases of a request to the ring.
+use Rattle.std.proofs.Common.{◌≡◌, ℕ, suc, ◌+◌, ◌-◌, ◌<◌, ◌≤◌, Bool, true, false, eqb, ◌≢◌, List, [], ◌∷◌, length, length-set, get_or, set, sym, refl, ap, ◌∙◌, subst, arith}
 use lib.ListN.{length-replicate, replicate-append-replicate}
 use Rattle.std.proofs.lemmas.Bool.{eq-eqb, ne_eqb, cond-true, cond-false}
 use Rattle.std.proofs.lemmas.Bool.Decides.{nat_tests}
@@ -9,78 +9,96 @@ use Rattle.network.specs.Request.{joined}
 use Rattle.network.specs.Ringing.{seat, board_after, board_before, ringing, ring_of, so_many, ring_state, seat_left, ring_left}
 use Rattle.network.specs.declared.answer.Answer.{Answer}
 use Rattle.network.specs.declared.answer.Answer.TheVariants.{Ran, Waiting, Ended, Refused}
+use Rattle.network.specs.declared.ring.Ring.{Ring}
 use Rattle.network.specs.declared.ring.Seat.{Seat}
 use Rattle.network.proofs.Kept as kept
-use Rattle.network.proofs.Kept.{Answered}
+use Rattle.network.proofs.Kept.{Answered, Way}
 
--- what is read of a seat, and of the tokens on the way
-abbrev pub at : List Seat → ℕ → Seat
-at seats p = get_or seats p (seat 0 false)
-
-abbrev pub on_way : List ℕ → ℕ → ℕ
-on_way tokens p = get_or tokens p 0
-
-pub round_the_ring : (count p : ℕ) → p < count → p ≡ board_after count (board_before count p)
+round_the_ring : (count p : ℕ) → p < count → p ≡ board_after count (board_before count p)
 round_the_ring count p h = grind (arith, nat_tests)
 
-pub before_inside : (count p : ℕ) → p < count → board_before count p < count
+before_inside : (count p : ℕ) → p < count → board_before count p < count
 before_inside count p h = grind (arith, nat_tests)
 
-module _ (count depth : ℕ) (lent : List ℕ) (seats : List Seat) (tokens : List ℕ) (p : ℕ) where
+one_more : (n : ℕ) → so_many (n + 1) ≡ joined tt (so_many n)
+unfolding joined
+one_more n = sym (replicate-append-replicate n 1 (tt {0}))
+
+one_less : (n : ℕ) → n ≢ 0 → so_many n ≡ tt ∷ so_many (n - 1)
+one_less n some = let e : n ≡ suc (n - 1) = omega arith in ap so_many e
+
+abbrev pub ring_way : ℕ → ℕ → List ℕ → Way (Unit {0}) Seat ℕ
+ring_way count depth lent = record {
+  fixed = record { network = ring_of count; depth = depth; lent = lent };
+  to = board_after count;
+  letters = so_many;
+  idle = seat 0 false;
+  empty = 0;
+  weight = seat_left;
+}
+
+module _ (x : Ring) (p : ℕ) where
+  abbrev count : ℕ
+  count = length x.seats.now
+
+  abbrev way : ℕ → Way (Unit {0}) Seat ℕ
+  way n = ring_way n x.depth (x.seats.ghost_name ∷ x.tokens.ghost_name ∷ [])
+
+  -- what is read of board p, and of the tokens on the way
+  abbrev at : Seat
+  at = get_or x.seats.now p (seat 0 false)
+
+  abbrev on_way : ℕ → ℕ
+  on_way q = get_or x.tokens.now q 0
+
+  -- A request to board p was answered by a, and left the lists seats and tokens.
   abbrev pub Left : Answer → List Seat → List ℕ → Type 0
-  Left = kept.Left (ring_of count) depth (board_after count) so_many (seat 0 false) 0 seat_left lent seats tokens p
+  Left a seats tokens =
+      Answered (way count).fixed (way (length seats)).fixed (ring_state count x.seats.now x.tokens.now) (ring_left x.seats.now) p a (ring_state (length seats) seats tokens) (ring_left seats)
 
-  pub told : {count' : ℕ} {a a' : Answer} {seats' seats'' : List Seat} {tokens' tokens'' : List ℕ} → Left a seats' tokens'
-      → a' ≡ a → seats'' ≡ seats' → tokens'' ≡ tokens' → count' ≡ count
-      → Answered (ring_of count) (ring_of count') depth lent (ring_state count seats tokens) (ring_left seats) p a' (ring_state count' seats'' tokens'') (ring_left seats'')
-  told {count'} {a} {a'} {seats'} {seats''} {tokens'} {tokens''} x e f h n =
-      subst (λ k. Answered (ring_of count) (ring_of k) depth lent (ring_state count seats tokens) (ring_left seats) p a' (ring_state k seats'' tokens'') (ring_left seats'')) (sym n)
-      (kept.told (ring_of count) depth (board_after count) so_many (seat 0 false) 0 seat_left lent seats tokens p x e f h)
+  -- the seat of board p was written
+  written : (s : Seat) (tokens : List ℕ) → kept.Left (way count) x.seats.now x.tokens.now p Ran (set x.seats.now p s) tokens → Left Ran (set x.seats.now p s) tokens
+  written s tokens l =
+      subst (λ n. Answered (way count).fixed (way n).fixed (ring_state count x.seats.now x.tokens.now) (ring_left x.seats.now) p Ran (ring_state n (set x.seats.now p s) tokens) (ring_left (set x.seats.now p s))) (sym (length-set x.seats.now p s)) l
 
-  pub refused : count ≤ p → Left Refused seats tokens
+  pub refused : count ≤ p → Left Refused x.seats.now x.tokens.now
   unfolding ring_of
-  refused outside = kept.refused (ring_of count) depth (board_after count) so_many (seat 0 false) 0 seat_left lent seats tokens p outside
+  refused outside = kept.refused (way count) x.seats.now x.tokens.now p outside
 
   module _ (inside : p < count) where
-    pub ended : (at seats p).laps ≡ 0 → Left Ended seats tokens
+    pub ended : at.laps ≡ 0 → Left Ended x.seats.now x.tokens.now
     unfolding ring_of
     ended none =
-        kept.ended (ring_of count) depth (board_after count) so_many (seat 0 false) 0 seat_left lent seats tokens p inside (cond-true (eqb (at seats p).laps 0) ends _ (eq-eqb (at seats p).laps 0 none))
+        kept.ended (way count) x.seats.now x.tokens.now p inside (cond-true (eqb at.laps 0) ends _ (eq-eqb at.laps 0 none))
 
-    next_is : (b : Bool) → (at seats p).laps ≢ 0 → (at seats p).holds ≡ b → (ring_of count).next p (at seats p) ≡ ringing count p (at seats p).laps b
+    next_is : (b : Bool) → at.laps ≢ 0 → at.holds ≡ b → (ring_of count).next p at ≡ ringing count p at.laps b
     unfolding ring_of
-    next_is b some e =
-        cond-false (eqb (at seats p).laps 0) ends _ (ne_eqb (at seats p).laps 0 some) ∙ ap (ringing count p (at seats p).laps) e
+    next_is b some e = cond-false (eqb at.laps 0) ends _ (ne_eqb at.laps 0 some) ∙ ap (ringing count p at.laps) e
 
-    pub put_waits : (at seats p).laps ≢ 0 → (at seats p).holds ≡ true → depth ≤ on_way tokens p → Left Waiting seats tokens
+    pub put_waits : at.laps ≢ 0 → at.holds ≡ true → x.depth ≤ on_way p → Left Waiting x.seats.now x.tokens.now
     unfolding ring_of ringing
     put_waits some e full =
-        kept.put_waits (ring_of count) depth (board_after count) so_many (seat 0 false) 0 seat_left lent seats tokens p inside tt (seat ((at seats p).laps - 1) false) (next_is true some e) (omega (arith, length-replicate (on_way tokens p) (tt {0})))
+        kept.put_waits (way count) x.seats.now x.tokens.now p inside tt (seat (at.laps - 1) false) (next_is true some e) (omega (arith, length-replicate (on_way p) (tt {0})))
 
-    pub take_waits : (at seats p).laps ≢ 0 → (at seats p).holds ≡ false → on_way tokens (board_before count p) ≡ 0 → Left Waiting seats tokens
+    pub put_ran : at.laps ≢ 0 → at.holds ≡ true → on_way p < x.depth → Left Ran (set x.seats.now p (seat (at.laps - 1) false)) (set x.tokens.now p (on_way p + 1))
     unfolding ring_of ringing
-    take_waits some e none =
-        kept.take_waits (ring_of count) depth (board_after count) so_many (seat 0 false) 0 seat_left lent seats tokens p inside (board_before count p) (λ _. seat (at seats p).laps true) (next_is false some e) (round_the_ring count p inside) (ap so_many none)
+    put_ran some e room =
+        written _ _ (kept.put_ran (way count) x.seats.now x.tokens.now p inside (omega arith) tt (seat (at.laps - 1) false) (on_way p + 1) (omega (arith, x.level)) (next_is true some e) (omega (arith, length-replicate (on_way p) (tt {0}))) (one_more (on_way p)) (rw e (omega arith)))
 
-    module _ (there : count ≤ length seats) (there' : count ≤ length tokens) where
-      one_more : (n : ℕ) → so_many (n + 1) ≡ joined tt (so_many n)
-      unfolding joined
-      one_more n = sym (replicate-append-replicate n 1 (tt {0}))
+    module _ (from : ℕ) (before : from ≡ board_before count p) where
+      there : p ≡ board_after count from
+      there = round_the_ring count p inside ∙ ap (board_after count) (sym before)
 
-      one_less : (n : ℕ) → n ≢ 0 → so_many n ≡ tt ∷ so_many (n - 1)
-      one_less n some = let e : n ≡ suc (n - 1) = omega arith in ap so_many e
-
-      pub put_ran : (at seats p).laps ≢ 0 → (at seats p).holds ≡ true → on_way tokens p < depth
-          → Left Ran (set seats p (seat ((at seats p).laps - 1) false)) (set tokens p (on_way tokens p + 1))
+      pub take_waits : at.laps ≢ 0 → at.holds ≡ false → on_way from ≡ 0 → Left Waiting x.seats.now x.tokens.now
       unfolding ring_of ringing
-      put_ran some e room =
-          kept.put_ran (ring_of count) depth (board_after count) so_many (seat 0 false) 0 seat_left lent seats tokens p inside (omega arith) tt (seat ((at seats p).laps - 1) false) (on_way tokens p + 1) (omega arith) (next_is true some e) (omega (arith, length-replicate (on_way tokens p) (tt {0}))) (one_more (on_way tokens p)) (rw e (omega arith))
+      take_waits some e none =
+          kept.take_waits (way count) x.seats.now x.tokens.now p inside from (λ _. seat at.laps true) (rw before (next_is false some e)) there (ap so_many none)
 
-      pub take_ran : (at seats p).laps ≢ 0 → (at seats p).holds ≡ false → on_way tokens (board_before count p) ≢ 0
-          → Left Ran (set seats p (seat (at seats p).laps true)) (set tokens (board_before count p) (on_way tokens (board_before count p) - 1))
+      pub take_ran : (rest : ℕ) → at.laps ≢ 0 → at.holds ≡ false → on_way from ≢ 0 → rest ≡ on_way from - 1
+          → Left Ran (set x.seats.now p (seat at.laps true)) (set x.tokens.now from rest)
       unfolding ring_of ringing
-      take_ran some e waits =
-          kept.take_ran (ring_of count) depth (board_after count) so_many (seat 0 false) 0 seat_left lent seats tokens p inside (omega arith) (board_before count p) (λ _. seat (at seats p).laps true) tt (so_many (on_way tokens (board_before count p) - 1)) (on_way tokens (board_before count p) - 1) (omega (arith, before_inside count p inside)) (next_is false some e) (round_the_ring count p inside) (one_less (on_way tokens (board_before count p)) waits) refl (rw e (omega arith))
+      take_ran rest some e waits less =
+          written _ _ (kept.take_ran (way count) x.seats.now x.tokens.now p inside (omega arith) from (λ _. seat at.laps true) tt (so_many rest) rest (omega (arith, before_inside count p inside, x.level)) (rw before (next_is false some e)) there (one_less (on_way from) waits ∙ ap (λ n. tt ∷ so_many n) (sym less)) refl (rw e (omega arith)))
 
 -- The names of the two slices, out of the list of both.
 pub first_same : {a b c d : ℕ} → a ∷ b ∷ [] ≡ c ∷ d ∷ [] → c ≡ a

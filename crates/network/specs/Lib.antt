@@ -1,9 +1,11 @@
 pub mod Network
 pub mod Request
 pub mod Runs
+pub mod Fixed
 pub mod Laws
 pub mod Drivers
 pub mod Exchange
 pub mod Slots
+pub mod Desks
 pub mod Relaying
 pub mod Ringing

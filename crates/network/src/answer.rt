@@ -1,7 +1,7 @@
 //! What a board says to a request.
 
 /// The four answers to a request.
-#[derive(Clone, Copy)]
+#[derive(Clone, Copy, PartialEq, Eq, Debug)]
 pub enum Answer {
     /// The board's next step was run.
     Ran,

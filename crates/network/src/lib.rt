@@ -3,6 +3,7 @@
 
 pub mod answer;
 pub mod boards;
+pub mod desk;
 pub mod driver;
 pub mod pair;
 pub mod relay;

@@ -1,16 +1,19 @@
 //! Two boards that exchange their values.
 ghost use Rattle.std.specs.Prelude.{◌≡◌, [], ◌∷◌, length, None};
+ghost use Rattle.network.specs.Desks.{desk, owns, letters};
 ghost use Rattle.network.specs.Exchange.{partner, exchange, exchange_state, exchange_left};
+ghost use Rattle.network.specs.Fixed.{owned};
 ghost use Rattle.network.specs.Request.{request};
 ghost use Rattle.network.specs.Runs.{Complete};
 ghost use Rattle.network.specs.declared.pair.Phase.TheVariants.{Putting};
 
 use crate::answer::Answer;
 use crate::boards::Boards;
+use crate::desk::Desk;
 use crate::driver::run_until_quiet;
 
 /// How far a board of the pair has come.
-#[derive(Clone, Copy)]
+#[derive(Clone, Copy, PartialEq, Eq, Debug)]
 pub enum Phase {
     /// It puts its value to the other board next.
     Putting,
@@ -21,40 +24,43 @@ pub enum Phase {
 }
 
 /// One board of the pair.
-#[derive(Clone, Copy)]
+#[derive(Clone, Copy, PartialEq, Eq, Debug)]
 pub struct Partner {
     pub phase: Phase,
     pub value: u32,
 }
 
 /// The two boards, and the letter on the way from each: rows of depth 1.
-#[derive(Clone, Copy)]
+#[derive(Clone, Copy, PartialEq, Eq, Debug)]
 pub struct Pair {
-    pub boards: [Partner; 2],
-    pub letters: [Option<u32>; 2],
-    ghost both: { (length boards ≡ 2) × (length letters ≡ 2) },
+    pub desks: [Desk<Partner>; 2],
+    ghost both: { length desks ≡ 2 },
 }
 
 impl Pair {
     /// The two boards before their first step. They can run to their end: that is, here is a network with a complete list.
     pub fn new(first: u32, second: u32) -> Pair
-        ensures boards { result.boards ≡ partner Putting first ∷ partner Putting second ∷ [] }
-        ensures letters { result.letters ≡ None ∷ None ∷ [] }
-        ensures complete { Complete (request exchange 1) 2 (exchange_state result.boards result.letters) (0 ∷ 1 ∷ 0 ∷ 1 ∷ []) }
+        ensures desks { result.desks ≡ desk (partner Putting first) None ∷ desk (partner Putting second) None ∷ [] }
+        ensures complete { Complete (request exchange 1) 2 (exchange_state (owns result.desks) (letters result.desks)) (0 ∷ 1 ∷ 0 ∷ 1 ∷ []) }
     {
         let phase = Phase::Putting;
         Pair {
-            boards: [
-                Partner {
-                    phase,
-                    value: first,
+            desks: [
+                Desk {
+                    own: Partner {
+                        phase,
+                        value: first,
+                    },
+                    letter: None,
                 },
-                Partner {
-                    phase,
-                    value: second,
+                Desk {
+                    own: Partner {
+                        phase,
+                        value: second,
+                    },
+                    letter: None,
                 },
             ],
-            letters: [None, None],
         }
     }
 }
@@ -65,7 +71,8 @@ pub fn exchanged(first: u32, second: u32) -> (u32, u32)
 {
     let mut pair = Pair::new(first, second);
     let _ = run_until_quiet(&mut pair);
-    (pair.boards[0].value, pair.boards[1].value)
+    let [left, right] = pair.desks;
+    (left.own.value, right.own.value)
 }
 
 impl Boards for Pair {
@@ -73,14 +80,13 @@ impl Boards for Pair {
 
     type Own = Partner;
 
-    ghost network = { λ _. exchange };
+    ghost fixed = { λ _. owned exchange 1 };
 
-    ghost depth = { λ _. 1 };
+    ghost state = { λ x. exchange_state (owns x.desks) (letters x.desks) };
 
-    ghost state = { λ x. exchange_state x.boards x.letters };
+    ghost left = { λ x. exchange_left (owns x.desks) };
 
-    ghost left = { λ x. exchange_left x.boards };
-
+    #[tactic(auto, unfolding(crate::specs::Exchange::exchange))]
     fn count(&self) -> usize {
         2
     }
@@ -89,34 +95,30 @@ impl Boards for Pair {
         if board >= 2 {
             return Answer::Refused;
         }
-        let other = 1 - board;
-        let Partner { phase, value } = self.boards[board];
-        let sent = self.letters[board];
-        let waiting = self.letters[other];
-        match phase {
-            Phase::Putting => match sent {
-                Some(_) => Answer::Waiting,
-                None => {
-                    self.letters[board] = Some(value);
-                    self.boards[board] = Partner {
+        let Desk { own, letter } = self.desks[board];
+        match (own.phase, letter) {
+            (Phase::Putting, Some(_)) => Answer::Waiting,
+            (Phase::Putting, None) => {
+                self.desks[board] = Desk {
+                    own: Partner {
                         phase: Phase::Taking,
-                        value,
-                    };
-                    Answer::Ran
-                }
-            },
-            Phase::Taking => match waiting {
-                None => Answer::Waiting,
-                Some(letter) => {
-                    self.letters[other] = None;
-                    self.boards[board] = Partner {
-                        phase: Phase::Done,
-                        value: letter,
-                    };
-                    Answer::Ran
-                }
-            },
-            Phase::Done => Answer::Ended,
+                        ..own
+                    },
+                    letter: Some(own.value),
+                };
+                Answer::Ran
+            }
+            (Phase::Taking, _) => {
+                let Some(letter) = self.desks[1 - board].letter.take() else {
+                    return Answer::Waiting;
+                };
+                self.desks[board].own = Partner {
+                    phase: Phase::Done,
+                    value: letter,
+                };
+                Answer::Ran
+            }
+            (Phase::Done, _) => Answer::Ended,
         }
     }
 }

@@ -1,14 +1,16 @@
 //! A relay of up to eight boards that pass a sum on.
 ghost use Rattle.std.specs.Prelude.{◌≡◌, ℕ, ◌-◌, ◌<◌, ◌≤◌, length, MatchOption, slice_index_or};
-ghost use Rattle.network.specs.declared.relay.Station.TheVariants.{Adds, Done};
+ghost use Rattle.network.specs.Desks.{owns, letters};
+ghost use Rattle.network.specs.Fixed.{owned};
 ghost use Rattle.network.specs.Relaying.{MadeOf, Relayed, relay_of, relay_state, relay_left};
+ghost use Rattle.network.specs.declared.relay.Station.TheVariants.{Adds, Done};
 
 use crate::answer::Answer;
 use crate::boards::Boards;
+use crate::desk::Desk;
 use crate::driver::run_until_quiet;
-
 /// One board of the relay.
-#[derive(Clone, Copy)]
+#[derive(Clone, Copy, PartialEq, Eq, Debug)]
 pub enum Station {
     /// It adds its value next, to the sum of the station before; the first station to nothing.
     Adds(u32),
@@ -19,45 +21,45 @@ pub enum Station {
 }
 
 /// The first `count` stations, and the letter on the way from each to the next: rows of depth 1.
-#[derive(Clone, Copy)]
+// Kept: a count beside the desks, since how many stations there are is known at run time only, and a relay is made without a heap.
+#[derive(Clone, Copy, PartialEq, Eq, Debug)]
 pub struct Relay {
     pub count: usize,
-    pub stations: [Station; 8],
-    pub letters: [Option<u32>; 8],
-    ghost room: { (count ≤ 8) × (length stations ≡ 8) × (length letters ≡ 8) },
+    pub desks: [Desk<Station>; 8],
+    ghost room: { (count ≤ 8) × (length desks ≡ 8) },
 }
 
 impl Relay {
     /// A station for each value, before its first step; none for more than eight values.
     pub fn new(values: &[u32]) -> Option<Relay>
-        ensures { MatchOption result (8 < length values.now) (λ x. MadeOf values.now x.count x.stations x.letters) }
+        ensures { MatchOption result (8 < length values.now) (λ x. MadeOf values.now x.count (owns x.desks) (letters x.desks)) }
     {
         if values.len() > 8 {
             return None;
         }
-        let mut stations = [Station::Adds(0); 8];
-        for (p, value) in values.iter().enumerate() {
-            stations[p] = Station::Adds(*value);
+        let mut desks = [Desk {
+            own: Station::Adds(0),
+            letter: None,
+        }; 8];
+        // Kept: an index, since of what a loop over `iter_mut().zip(..)` wrote a proof knows nothing.
+        for (board, value) in values.iter().enumerate() {
+            desks[board].own = Station::Adds(*value);
         }
         Some(Relay {
             count: values.len(),
-            stations,
-            letters: [None; 8],
+            desks,
         })
     }
 
     /// The sum that the last station has ended with.
     fn result(&self) -> Option<u32>
-        ensures { MatchOption result ((s : ℕ) → slice_index_or self.now.stations (self.now.count - 1) (Adds 0) ≡ Done s → self.now.count ≡ 0) (λ s. (0 < self.now.count) × (slice_index_or self.now.stations (self.now.count - 1) (Adds 0) ≡ Done s)) }
+        ensures { MatchOption result ((s : ℕ) → slice_index_or (owns self.now.desks) (self.now.count - 1) (Adds 0) ≡ Done s → self.now.count ≡ 0) (λ s. (0 < self.now.count) × (slice_index_or (owns self.now.desks) (self.now.count - 1) (Adds 0) ≡ Done s)) }
     {
-        if self.count == 0 {
+        let last = self.count.checked_sub(1)?;
+        let Station::Done(sum) = self.desks[last].own else {
             return None;
-        }
-        let last = self.stations[self.count - 1];
-        match last {
-            Station::Done(sum) => Some(sum),
-            Station::Adds(_) | Station::Holds(_) => None,
-        }
+        };
+        Some(sum)
     }
 }
 
@@ -75,14 +77,13 @@ impl Boards for Relay {
 
     type Own = Station;
 
-    ghost network = { λ x. relay_of x.count };
+    ghost fixed = { λ x. owned (relay_of x.count) 1 };
 
-    ghost depth = { λ _. 1 };
+    ghost state = { λ x. relay_state (owns x.desks) (letters x.desks) };
 
-    ghost state = { λ x. relay_state x.stations x.letters };
+    ghost left = { λ x. relay_left (owns x.desks) };
 
-    ghost left = { λ x. relay_left x.stations };
-
+    #[tactic(auto, unfolding(crate::specs::Relaying::relay_of))]
     fn count(&self) -> usize {
         self.count
     }
@@ -91,39 +92,32 @@ impl Boards for Relay {
         if board >= self.count {
             return Answer::Refused;
         }
-        let station = self.stations[board];
-        match station {
-            Station::Adds(value) => {
-                if board == 0 {
-                    self.stations[board] = Station::Holds(value);
-                    return Answer::Ran;
-                }
-                let waiting = self.letters[board - 1];
-                match waiting {
-                    None => Answer::Waiting,
-                    Some(sum) => {
-                        self.letters[board - 1] = None;
-                        self.stations[board] = Station::Holds(value.wrapping_add(sum));
-                        Answer::Ran
-                    }
-                }
+        let Desk { own, letter } = self.desks[board];
+        match (own, letter) {
+            (Station::Adds(value), _) if board == 0 => {
+                self.desks[board].own = Station::Holds(value);
+                Answer::Ran
             }
-            Station::Holds(sum) => {
-                if board + 1 == self.count {
-                    self.stations[board] = Station::Done(sum);
-                    return Answer::Ran;
-                }
-                let sent = self.letters[board];
-                match sent {
-                    Some(_) => Answer::Waiting,
-                    None => {
-                        self.letters[board] = Some(sum);
-                        self.stations[board] = Station::Done(sum);
-                        Answer::Ran
-                    }
-                }
+            (Station::Adds(value), _) => {
+                let Some(sum) = self.desks[board - 1].letter.take() else {
+                    return Answer::Waiting;
+                };
+                self.desks[board].own = Station::Holds(value.wrapping_add(sum));
+                Answer::Ran
             }
-            Station::Done(_) => Answer::Ended,
+            (Station::Holds(sum), _) if board + 1 == self.count => {
+                self.desks[board].own = Station::Done(sum);
+                Answer::Ran
+            }
+            (Station::Holds(_), Some(_)) => Answer::Waiting,
+            (Station::Holds(sum), None) => {
+                self.desks[board] = Desk {
+                    own: Station::Done(sum),
+                    letter: Some(sum),
+                };
+                Answer::Ran
+            }
+            (Station::Done(_), _) => Answer::Ended,
         }
     }
 }

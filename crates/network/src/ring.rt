@@ -7,13 +7,14 @@ use crate::boards::Boards;
 use crate::driver::run_until_quiet;
 
 /// One board of the ring: how often it still passes a token on, and whether it holds one.
-#[derive(Clone, Copy)]
+#[derive(Clone, Copy, PartialEq, Eq, Debug)]
 pub struct Seat {
     pub laps: u32,
     pub holds: bool,
 }
 
 /// The boards, and how many tokens are on the way from each to the next, at most `depth`.
+// Kept: two slices, since a caller of `pass_round` lends them apart, and gets no answer where they differ in length.
 #[derive(Drop)]
 pub struct Ring<'a> {
     pub seats: &'a mut [Seat],
@@ -51,16 +52,13 @@ impl<'a> Boards for Ring<'a> {
 
     type Own = Seat;
 
-    ghost network = { λ x. ring_of (length x.seats.now) };
-
-    ghost depth = { λ x. x.depth };
+    ghost fixed = { λ x. record { network = ring_of (length x.seats.now); depth = x.depth; lent = x.seats.ghost_name ∷ x.tokens.ghost_name ∷ [] } };
 
     ghost state = { λ x. ring_state (length x.seats.now) x.seats.now x.tokens.now };
 
     ghost left = { λ x. ring_left x.seats.now };
 
-    ghost lent = { λ x. x.seats.ghost_name ∷ x.tokens.ghost_name ∷ [] };
-
+    #[tactic(auto, unfolding(crate::specs::Ringing::ring_of))]
     fn count(&self) -> usize {
         self.seats.len()
     }
@@ -74,23 +72,21 @@ impl<'a> Boards for Ring<'a> {
             return Answer::Ended;
         }
         if holds {
-            let waiting = self.tokens[board];
-            if waiting >= self.depth {
+            if self.tokens[board] >= self.depth {
                 return Answer::Waiting;
             }
-            self.tokens[board] = waiting + 1;
+            self.tokens[board] += 1;
             self.seats[board] = Seat {
                 laps: laps - 1,
                 holds: false,
             };
         } else {
             let from = before(board, self.seats.len());
-            let waiting = self.tokens[from];
-            if waiting == 0 {
+            let Some(rest) = self.tokens[from].checked_sub(1) else {
                 return Answer::Waiting;
-            }
-            self.tokens[from] = waiting - 1;
-            self.seats[board] = Seat { laps, holds: true };
+            };
+            self.tokens[from] = rest;
+            self.seats[board].holds = true;
         }
         Answer::Ran
     }

@@ -6,7 +6,7 @@ pub loop-tally-init : goal.loop-tally-init
 loop-tally-init g c =
     let b = g.N.Boards in
     let start = c.args.boards.now in
-    (refl, refl, refl, no_round (b.network start) (b.depth start) (b.state start))
+    (refl, no_round (b.fixed start).network (b.fixed start).depth (b.state start))
 
 pub loop-tally-preserved : goal.loop-tally-preserved
 loop-tally-preserved g c =
@@ -14,8 +14,8 @@ loop-tally-preserved g c =
     let start = c.args.boards.now in
     let inv = c.loop-tally.invariant in
     let e = c.round-tally.ensures in
-    let came = came_at (b.state c.loop-tally.boards) (b.state c.round-tally.new.boards) c.round-tally.result.ran c.round-tally.result.ended inv.0 inv.1 e.came_to in
-    (e.same_network ∙ inv.0, e.same_depth ∙ inv.1, e.same_lent ∙ inv.2, one_more_round (b.network start) (b.depth start) (b.state start) inv.3 came)
+    let came = came_at inv.0 e.came_to in
+    (e.same ∙ inv.0, one_more_round (b.fixed start).network (b.fixed start).depth (b.state start) inv.1 came)
 
 pub returns-then-tally-eq0 : goal.returns-then-tally-eq0
 returns-then-tally-eq0 g c =
@@ -23,10 +23,8 @@ returns-then-tally-eq0 g c =
     let start = c.args.boards.now in
     let inv = c.loop-tally.invariant in
     let e = c.round-tally.ensures in
-    let came = came_at (b.state c.loop-tally.boards) (b.state c.round-tally.new.boards) c.round-tally.result.ran c.round-tally.result.ended inv.0 inv.1 e.came_to in
+    let came = came_at inv.0 e.came_to in
     record {
-      went_round = went_round (b.network start) (b.depth start) (b.state start) _ inv.3 came (omega arith) (search rules);
-      same_network = e.same_network ∙ inv.0;
-      same_depth = e.same_depth ∙ inv.1;
-      same_lent = e.same_lent ∙ inv.2;
+      went_round = went_round (b.fixed start).network (b.fixed start).depth (b.state start) _ inv.1 came (omega arith) (search rules);
+      same = e.same ∙ inv.0;
     }

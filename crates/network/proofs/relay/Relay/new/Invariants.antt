@@ -1,6 +1,8 @@
-use Rattle.std.proofs.Common.{◌≡◌, ℕ, ◌<◌, length, get_or}
+use Rattle.std.proofs.Common.{◌≡◌, ℕ, ◌<◌, length, get_or, replicate, None}
+use Rattle.network.specs.Desks.{owns, letters}
 use Rattle.network.specs.declared.relay.Station.TheVariants.{Adds}
 use Rattle.network.proofs.relay.Relay.new.Given as goal
 
-abbrev pub invariant-loop-p : goal.invariant-loop-p
-invariant-loop-p l = (length l.stations ≡ 8) × ((k : ℕ) → k < l.p → get_or l.stations k (Adds 0) ≡ Adds (get_or l.values k 0))
+abbrev pub invariant-loop-board : goal.invariant-loop-board
+invariant-loop-board l =
+    (length l.desks ≡ 8) × (letters l.desks ≡ replicate 8 None) × ((k : ℕ) → k < l.board → get_or (owns l.desks) k (Adds 0) ≡ Adds (get_or l.values k 0))
