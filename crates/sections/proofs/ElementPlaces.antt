@@ -5,12 +5,11 @@ use Rattle.nest.specs.declared.terms.Array.{Array}
 use Rattle.nest.specs.declared.terms.Grid.{Grid}
 use Rattle.layout.specs.Places.{IsElement}
 use Rattle.layout.proofs.Starts.{element_here}
-use Rattle.owner_map.specs.Meaning.{Deal, Sound, Position, owner, rank, share}
-use Rattle.sections.specs.Sections.{Deals, Fits, dealt, rows_of, columns_of, board_of, part_at, section_of}
-use Rattle.sections.specs.Starts.{Begun}
+use Rattle.owner_map.specs.Meaning.{Deal, Sound, Position, owner}
+use Rattle.sections.specs.Sections.{Fits, dealt, rows_of, columns_of, board_of}
 use Rattle.sections.proofs.MapsFit.{meant, maps_sound}
 use Rattle.sections.proofs.NestRoom.{Room}
-use Rattle.sections.proofs.SectionPlaces.{row_on, column_on, on_board, section_below}
+use Rattle.sections.proofs.SectionPlaces.{row_on, column_on, on_board}
 
 module _ {X Y : Type 0} (f : X → Deal) (h : Y → Deal) (grid : Grid) (arrays : List Array) (xs : List X) (ys : List Y) (fit : Fits grid arrays (dealt (map f xs) (map h ys))) (t x y : ℕ) (e : IsElement arrays t x y) where
   pub on_rows : t < length xs
@@ -42,25 +41,3 @@ module _ {X Y : Type 0} (f : X → Deal) (h : Y → Deal) (grid : Grid) (arrays 
 
     pub board_few : o + grid.rows * p < 8
     board_few = omega (arith, board_low, room.boards)
-
-    pub array_few : t < 4
-    array_few = omega (arith, (element_here arrays t x y e).0, room.few)
-
-    pub owner_on : p < (h c).boards
-    owner_on = omega (arith, p-is, (hs c).4 y (column_in c is_c fs hs))
-
-    module _ (starts : List ℕ) (begun : Begun grid (dealt (map f xs) (map h ys)) starts) (n m w : ℕ) (n-is : n ≡ rank (f r) x) (m-is : m ≡ rank (h c) y) (w-is : w ≡ share (h c) p) where
-      pub found : get_or starts ((o + grid.rows * p) * 4 + t) 0 + n * w + m ≡ section_of grid.rows (dealt (map f xs) (map h ys)) t x y
-      unfolding section_of
-      found =
-          let deals : Deals = dealt (map f xs) (map h ys) in
-          let start = begun (o + grid.rows * p) t board_low (omega (arith, on_rows, length-map xs f)) in
-          let at : part_at grid.rows deals (o + grid.rows * p) t ≡ part_at grid.rows deals (board_of grid.rows deals t x y) t = ap (λ b. part_at grid.rows deals b t) board_is in
-          let row : n ≡ rank (rows_of deals t) x = n-is ∙ ap (λ d. rank d x) (rows_are r is-r) in
-          let wide : w ≡ share (columns_of deals t) (owner (columns_of deals t) y) = w-is ∙ ap₂ share (columns_are c is_c) (p-is ∙ ap (λ d. owner d y) (columns_are c is_c)) in
-          let cells : n * w ≡ rank (rows_of deals t) x * share (columns_of deals t) (owner (columns_of deals t) y) = ap₂ (λ a b. a * b) row wide in
-          let column : m ≡ rank (columns_of deals t) y = m-is ∙ ap (λ d. rank d y) (columns_are c is_c) in
-          omega arith
-
-      pub found_low : get_or starts ((o + grid.rows * p) * 4 + t) 0 + n * w + m < 4096
-      found_low = omega (arith, found, section_below grid arrays (dealt (map f xs) (map h ys)) fit (maps_sound f h fs hs xs ys) t x y e, room.elements)

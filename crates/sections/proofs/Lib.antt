@@ -10,5 +10,6 @@ pub mod Lookups
 pub mod Tablings
 pub mod DealtPlaces
 pub mod DealtMade
-pub mod Carrying
+pub mod Elements
+pub mod Walks
 pub mod Exchanges

@@ -3,6 +3,7 @@ use Rattle.std.specs.Prelude.{◌≡◌, ℕ, ◌⊎◌, List, length, Ok, Err, 
 use Rattle.nest.specs.Terms.{Sheet}
 use Rattle.layout.specs.Places.{total, IsElement, place_of}
 use Rattle.sections.specs.declared.refusal.LayoutRefusal.{LayoutRefusal}
+use Rattle.sections.specs.DealtNests.{DealtNest, IsFitted}
 use Rattle.sections.specs.Refusals.{number}
 use Rattle.sections.specs.Sections.{Deals, Fits, section_of}
 
@@ -26,6 +27,11 @@ Due sheet deals arrays sections number =
 abbrev pub Answered : {A : Type 0} → Sheet → Deals → ℕ → ℕ → Type 0 → Type 0 → Result A LayoutRefusal → Type 0
 Answered sheet deals arrays sections Moved Untouched (Ok _) = Fits sheet.grid sheet.arrays deals × Long sheet arrays sections × Moved
 Answered sheet deals arrays sections Moved Untouched (Err e) = Due sheet deals arrays sections (number e) × Untouched
+
+-- the nest with its deals is given exactly where no refusal is due
+abbrev pub Prepared : DealtNest → ℕ → ℕ → Result DealtNest LayoutRefusal → Type 0
+Prepared d arrays sections (Ok f) = (f ≡ d) × IsFitted d × Long d.nest arrays sections
+Prepared d arrays sections (Err e) = Due d.nest d.deals arrays sections (number e)
 
 -- no other arrays have these sections: what gather makes of them is the arrays that were scattered
 abbrev pub ArraysBack : {T : Type 0} → Sheet → Deals → List T → List T → Type 0

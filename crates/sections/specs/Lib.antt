@@ -3,7 +3,7 @@ pub mod DealtNests
 pub mod SectionLaws
 pub mod Order
 pub mod Starts
-pub mod Carry
+pub mod Beside
 pub mod MapRows
 pub mod MapTables
 pub mod Holdings

@@ -1,51 +1,34 @@
 // Scatter and gather: all elements moved between the arrays and the boards' sections.
 ghost use Rattle.std.specs.Prelude.{◌≡◌, map, length, OnOk};
 ghost use Rattle.nest.specs.Nests.{shown};
-ghost use Rattle.sections.specs.Carry.{course_of, AllRight};
-ghost use Rattle.sections.specs.Exchange.{SameElements, Answered, ArraysBack, SectionsBack};
+ghost use Rattle.sections.specs.DealtNests.{nest_dealt};
+ghost use Rattle.sections.specs.Exchange.{SameElements, Answered, Prepared, ArraysBack, SectionsBack};
 ghost use Rattle.sections.specs.Order.{PlaceIsIndex};
 ghost use Rattle.sections.specs.SectionLaws.{OneSectionEach};
 ghost use Rattle.sections.specs.Sections.{dealt};
 
-use super::fitting::maps_fit;
+use super::fitted::Fitted;
 use super::refusal::LayoutRefusal;
-use super::starts::part_starts;
-use super::walk::Walk;
-use super::way::Way;
 use layout::table::Layout;
 use nest::nest::Nest;
 use owner_map::OwnerMap;
 
-/// Carries every element from one buffer to the other, unless the maps or a buffer's length differ from the nest.
-fn carry<'a, T: Copy, R: OwnerMap, C: OwnerMap>(
-    way: Way,
+/// The nest with these maps, unless they or the length of a buffer differ from it.
+fn prepared<'a, R: OwnerMap, C: OwnerMap>(
     nest: &'a Nest,
-    row_maps: &'a [R],
-    column_maps: &'a [C],
-    from: &[T],
-    to: &mut [T],
-) -> Result<(), LayoutRefusal>
-    ensures { Answered (shown nest.now) (dealt (map R.OwnerMap.meaning row_maps.now) (map C.OwnerMap.meaning column_maps.now)) (length from.now) (length to.old) (AllRight (course_of way (shown nest.now) (map R.OwnerMap.meaning row_maps.now) (map C.OwnerMap.meaning column_maps.now)) from.now to.new) (to.new ≡ to.old) result }
+    row_maps: &[R],
+    column_maps: &[C],
+    arrays: usize,
+    sections: usize,
+) -> Result<Fitted<'a>, LayoutRefusal>
+    ensures { Prepared (nest_dealt (shown nest.now) (map R.OwnerMap.meaning row_maps.now) (map C.OwnerMap.meaning column_maps.now)) arrays sections result }
 {
-    if !maps_fit(nest, row_maps, column_maps) {
-        return Err(LayoutRefusal::MapsDiffer);
-    }
-    let layout = Layout::new(nest);
-    let total = layout.total();
-    if from.len() != total || to.len() != total {
+    let fitted = Fitted::new(nest, row_maps, column_maps)?;
+    let total = Layout::new(nest).total();
+    if arrays != total || sections != total {
         return Err(LayoutRefusal::WrongLength);
     }
-    let starts = part_starts(nest, row_maps, column_maps);
-    let walk = Walk {
-        way,
-        nest,
-        layout,
-        starts,
-        row_maps,
-        column_maps,
-    };
-    walk.carry_all(from, to);
-    Ok(())
+    Ok(fitted)
 }
 
 /// Moves every element of the arrays to its place in the sections.
@@ -61,14 +44,11 @@ pub fn scatter<T: Copy, R: OwnerMap, C: OwnerMap>(
     ensures order { OnOk result (PlaceIsIndex (shown nest.now).grid (shown nest.now).arrays (dealt (map R.OwnerMap.meaning row_maps.now) (map C.OwnerMap.meaning column_maps.now))) }
     ensures undone { OnOk result (ArraysBack (shown nest.now) (dealt (map R.OwnerMap.meaning row_maps.now) (map C.OwnerMap.meaning column_maps.now)) arrays.now sections.new) }
 {
-    carry(
-        Way::IntoSections,
-        nest,
-        row_maps,
-        column_maps,
-        arrays,
-        sections,
-    )
+    let fitted = prepared(nest, row_maps, column_maps, arrays.len(), sections.len())?;
+    for (place, value) in arrays.iter().enumerate() {
+        sections[fitted.section_at(place)] = *value;
+    }
+    Ok(())
 }
 
 /// Moves every element of the sections back to its place in the arrays.
@@ -82,12 +62,9 @@ pub fn gather<T: Copy, R: OwnerMap, C: OwnerMap>(
     ensures answer { Answered (shown nest.now) (dealt (map R.OwnerMap.meaning row_maps.now) (map C.OwnerMap.meaning column_maps.now)) (length arrays.old) (length sections.now) (SameElements (shown nest.now) (dealt (map R.OwnerMap.meaning row_maps.now) (map C.OwnerMap.meaning column_maps.now)) arrays.new sections.now) (arrays.new ≡ arrays.old) result }
     ensures undone { OnOk result (SectionsBack (shown nest.now) (dealt (map R.OwnerMap.meaning row_maps.now) (map C.OwnerMap.meaning column_maps.now)) arrays.new sections.now) }
 {
-    carry(
-        Way::IntoArrays,
-        nest,
-        row_maps,
-        column_maps,
-        sections,
-        arrays,
-    )
+    let fitted = prepared(nest, row_maps, column_maps, arrays.len(), sections.len())?;
+    for (place, value) in arrays.iter_mut().enumerate() {
+        *value = sections[fitted.section_at(place)];
+    }
+    Ok(())
 }

@@ -9,11 +9,12 @@ use std::marker::Model;
 /// A nest and how its arrays are dealt out, by maps that fit it: one for the rows and one for the columns of each array.
 #[derive(Drop)]
 pub struct Fitted<'a> {
-    nest: &'a Nest,
-    dealt: Dealt,
+    pub(crate) nest: &'a Nest,
+    pub(crate) dealt: Dealt,
 }
 
 impl<'a> Model for Fitted<'a> {
+    ghost use Rattle.std.specs.Prelude.{◌≡◌};
     ghost use Rattle.nest.specs.Nests.{shown};
     ghost use Rattle.sections.specs.Dealings.{deals_of};
     ghost use Rattle.sections.specs.DealtNests.{DealtNest, IsFitted};
@@ -22,7 +23,7 @@ impl<'a> Model for Fitted<'a> {
 
     ghost view = { λ f. record { nest = shown f.nest.now; deals = deals_of f.dealt } };
 
-    ghost invariant = { λ f. IsFitted (record { nest = shown f.nest.now; deals = deals_of f.dealt }) };
+    ghost invariant = { λ f. IsFitted (record { nest = shown f.nest.now; deals = deals_of f.dealt }) × (f.dealt.grid ≡ f.nest.now.grid) };
 }
 
 impl<'a> Fitted<'a> {

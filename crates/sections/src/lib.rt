@@ -2,7 +2,6 @@
 #![tactic(auto)]
 
 mod asked;
-mod carry;
 mod dealt;
 mod exchange;
 mod fitted;
@@ -15,8 +14,6 @@ mod refusal;
 mod starts;
 mod tabling;
 mod trips;
-mod walk;
-mod way;
 
 pub use dealt::Dealt;
 pub use exchange::{gather, scatter};

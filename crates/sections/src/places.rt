@@ -1,14 +1,11 @@
-// Where an element lies in the section buffer, in constant time.
-ghost use Rattle.std.specs.Prelude.{◌≡◌, ◌+◌, ◌*◌, ◌<◌, map, length, slice_index};
-ghost use Rattle.nest.specs.Nests.{shown};
-ghost use Rattle.layout.specs.Places.{IsElement};
-ghost use Rattle.sections.specs.Sections.{dealt, section_of};
-ghost use Rattle.sections.specs.Starts.{Ready};
+// Where elements lie in both buffers, in constant time.
+ghost use Rattle.std.specs.Prelude.{◌≡◌, ◌+◌, ◌*◌, ◌<◌, ◌≤◌, length, slice_index, MatchOption};
+ghost use Rattle.layout.specs.Places.{total, IsElement, place_of};
+ghost use Rattle.sections.specs.Beside.{Beside};
 
-use super::asked::{place_of, share_of};
+use super::fitted::Fitted;
 use super::starts::{MOST_ARRAYS, MOST_PARTS};
-use super::walk::Walk;
-use owner_map::OwnerMap;
+use nest::terms::Array;
 
 /// The cell of a row rank and a column rank in the part of an array on a board, whose rows have this width.
 pub(crate) fn cell_of(
@@ -25,19 +22,30 @@ pub(crate) fn cell_of(
     starts[board * MOST_ARRAYS + array] + row_rank * width + column_rank
 }
 
-impl<'a, R: OwnerMap, C: OwnerMap> Walk<'a, R, C> {
-    /// Where an element lies in the section buffer: the owners name the board, the ranks the cell of its part.
-    pub(crate) fn section_place(&self, array: usize, row: usize, column: usize) -> usize
-        requires { (Ready (shown self.now.nest.now).grid (shown self.now.nest.now).arrays (dealt (map R.OwnerMap.meaning self.now.row_maps.now) (map C.OwnerMap.meaning self.now.column_maps.now)) self.now.starts) × (IsElement (shown self.now.nest.now).arrays array row column) }
-        ensures { result ≡ section_of (shown self.now.nest.now).grid.rows (dealt (map R.OwnerMap.meaning self.now.row_maps.now) (map C.OwnerMap.meaning self.now.column_maps.now)) array row column }
+/// The array, the row and the column of the element at a place in the arrays, or none past the last.
+fn element_at(arrays: &[Array], place: usize) -> Option<(usize, usize, usize)>
+    requires { total arrays.now ≤ 4096 }
+    ensures { MatchOption result (total arrays.now ≤ place) (λ e. IsElement arrays.now e.0 e.1 e.2 × (place_of arrays.now e.0 e.1 e.2 ≡ place)) }
+{
+    let mut left = place;
+    for (which, array) in arrays.iter().enumerate() {
+        let size = array.rows * array.columns;
+        if left < size {
+            return Some((which, left / array.columns + 1, left % array.columns + 1));
+        }
+        left -= size;
+    }
+    None
+}
+
+impl<'a> Fitted<'a> {
+    /// Where the element at a place in the arrays lies in the sections.
+    pub(crate) fn section_at(&self, place: usize) -> usize
+        requires { place < total self.now.nest.arrays }
+        ensures beside { Beside self.now place result }
+        ensures low { result < total self.now.nest.arrays }
     {
-        let row_maps = self.row_maps;
-        let column_maps = self.column_maps;
-        let columns = &column_maps[array];
-        let (row_owner, row_rank) = place_of(&row_maps[array], row);
-        let (column_owner, column_rank) = place_of(columns, column);
-        let board = row_owner + self.nest.grid().rows * column_owner;
-        let width = share_of(columns, column_owner);
-        cell_of(&self.starts, board, array, row_rank, width, column_rank)
+        let (array, row, column) = element_at(self.nest.arrays(), place).unwrap();
+        self.dealt.place(array, row, column).unwrap().1
     }
 }

@@ -7,7 +7,7 @@ use Rattle.sections.proofs.fitted.Fitted.new.Goals as goal
 pub invariant_of-result : goal.invariant_of-result
 invariant_of-result g c =
     let kept = c.in_ok-dealt.ensures in
-    (subst (Fits (shown c.args.nest.now).grid (shown c.args.nest.now).arrays) (sym kept.2) kept.0, dealt_sound c.in_ok-dealt.dealt)
+    ((subst (Fits (shown c.args.nest.now).grid (shown c.args.nest.now).arrays) (sym kept.2) kept.0, dealt_sound c.in_ok-dealt.dealt), kept.1)
 
 pub returns : goal.returns
 returns g c =
