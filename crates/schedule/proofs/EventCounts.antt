@@ -2,6 +2,7 @@
 use Rattle.std.proofs.Common.{◌≡◌, ℕ, zero, suc, ◌+◌, ◌*◌, ◌<◌, ◌≤◌, Bool, true, false, cond, eqb, List, [], ◌∷◌, map, length, sum_by, filter, Option, sym, refl, ap, ◌∙◌, ⊎_elim, suc-mul, zero-mul, arith}
 use Rattle.std.specs.List.{range_with_len, flat_map, AllByRecursion}
 use Rattle.std.proofs.lemmas.List.{length-append, length-map}
+use Rattle.std.proofs.lemmas.List.Concat.{length-flat_map}
 use Rattle.std.proofs.lemmas.List.Sums.{sum_by-cons, sum_by-append}
 use Rattle.std.proofs.lemmas.Bool.{cases_Bool, cond-true, cond-false, eqb-true, eqb-false, ne_eqb}
 use Rattle.nest.specs.Terms.{Said, Sheet}
@@ -16,7 +17,7 @@ use Rattle.compiler.specs.declared.order.Task.{Task}
 use Rattle.compiler.proofs.ListSums.{sums_like, sums_alike, sums_swap}
 use Rattle.schedule.specs.Memory.{Event, share_of}
 use Rattle.schedule.specs.Events.{nest_deeds}
-use Rattle.schedule.proofs.EventLists.{length_joined, length_again}
+use Rattle.schedule.proofs.EventLists.{length_again}
 
 -- an order has one step for each task of each cell
 order_length : (b : Seat) (s : Said) (tasks : List Task) (cells : List (Option Iteration)) → length (flat_map (λ cell. map (deed_in b s cell) tasks) cells) ≡ length cells * length tasks
@@ -29,10 +30,10 @@ board_length : (n : Sheet) (deals : Deals) (p : ℕ) → length (nest_deeds n de
 board_length n deals p =
     let b : Seat = seat n.grid.rows deals p in
     let statement : (ks : ℕ × Said) → length (statement_deeds b ks) ≡ statement_steps b ks = λ ks.
-    length_joined (order_deeds b ks.1) (orders_for b ks)
+    length-flat_map (order_deeds b ks.1) (orders_for b ks)
     ∙ sums_alike (λ o. length (order_deeds b ks.1 o)) (order_steps b ks.1) (orders_for b ks) (λ o. order_length b ks.1 (tasks_in ks.1 o.work) (cells_of b ks.1 o)) in
     length_again n.sweeps (sweep_deeds b n.statements)
-    ∙ ap (λ x. n.sweeps * x) (length_joined (statement_deeds b) (numbered 0 n.statements) ∙ sums_alike (λ ks. length (statement_deeds b ks)) (statement_steps b) (numbered 0 n.statements) statement)
+    ∙ ap (λ x. n.sweeps * x) (length-flat_map (statement_deeds b) (numbered 0 n.statements) ∙ sums_alike (λ ks. length (statement_deeds b ks)) (statement_steps b) (numbered 0 n.statements) statement)
 
 pub steps_counted : (n : Sheet) (deals : Deals) → sum_by (λ p. length (nest_deeds n deals p)) (range_with_len 0 (boards_of n.grid)) ≡ steps_of n deals
 steps_counted n deals = sums_alike (λ p. length (nest_deeds n deals p)) (board_steps n deals) (range_with_len 0 (boards_of n.grid)) (board_length n deals)

@@ -12,8 +12,6 @@ use Rattle.sections.specs.Sections.{Deals, Fits}
 use Rattle.sequential.specs.Iterations.{iterations}
 use Rattle.sequential.specs.Laws.{In}
 use Rattle.sequential.specs.declared.iteration.Iteration.{Iteration}
-use Rattle.sequential.proofs.Kept.{reached, target_reached}
-use Rattle.sequential.proofs.Targets.{in_iterations}
 use Rattle.compiler.specs.Spans.{Seat, seat}
 use Rattle.compiler.specs.Orders.{tasks_of}
 use Rattle.compiler.specs.Cells.{element_at, board_at, owns_at}
@@ -23,10 +21,11 @@ use Rattle.compiler.specs.Totals.{boards_of}
 use Rattle.compiler.specs.declared.order.Task.{Task}
 use Rattle.compiler.specs.declared.order.Task.TheVariants.{Ship, Base, Add, Store}
 use Rattle.compiler.proofs.FilteredLists.{all_in}
-use Rattle.compiler.proofs.OrderLaws.{statement_parts_lem, read_kept_lem, owners_are_boards}
+use Rattle.compiler.proofs.OrderLaws.{statement_parts_lem, owners_are_boards}
 use Rattle.schedule.specs.Memory.{Event, AtHome}
 use Rattle.schedule.specs.Events.{owner_in, doer, event_for, event_in, pass_tasks, events_by, sweep_events, statement_events, nest_events}
 use Rattle.schedule.specs.Start.{There}
+use Rattle.schedule.proofs.ElementsThere.{target_there, read_there}
 use Rattle.schedule.proofs.EventLists.{all_joined, all_again}
 
 -- what holds of the step holds of its event, if there is one
@@ -65,36 +64,34 @@ module _ (n : Sheet) (deals : Deals) (kept : nest_kept n.grid n.arrays n.sweeps 
 
   -- the elements that a statement names in an iteration are there
   module _ (s : Said) (m : In s n.statements) (e : Iteration) (me : In e (iterations s.i s.j)) where
-    target_there : There n.arrays (element_at s.put e)
-    target_there = (target_reached n.arrays s (statement_parts_lem n kept s m) e (in_iterations s e me)).element
+    target_here : There n.arrays (element_at s.put e)
+    target_here = target_there n.arrays s (statement_parts_lem n kept s m) e me
 
-    source_there : (r : ReadTerm) → In r s.reads → There n.arrays (element_at r.source e)
-    source_there r mr =
-        let parts = statement_parts_lem n kept s m in
-        (reached n.arrays s parts e (in_iterations s e me) 0 r.source (read_kept_lem n.arrays s r parts mr)).element
+    source_here : (r : ReadTerm) → In r s.reads → There n.arrays (element_at r.source e)
+    source_here = read_there n.arrays s (statement_parts_lem n kept s m) e me
 
     -- whatever a board does for a task is at home with it
     deed_home : (p : ℕ) (t : Task) → ReadsOf s t → HomeDeed p (deed_of (seat n.grid.rows deals p) s t e)
     deed_home p (Ship r) mr =
         let b : Seat = seat n.grid.rows deals p in
         cond_both (owns_at b r.source e) (cond (owns_at b s.put e) rests (ships (board_at b s.put e) (element_at r.source e))) rests (HomeDeed p)
-        (λ own. cond_both (owns_at b s.put e) rests (ships (board_at b s.put e) (element_at r.source e)) (HomeDeed p) (λ _. tt) (λ _. (source_there r mr, eqb-true (board_at b r.source e) p own)))
+        (λ own. cond_both (owns_at b s.put e) rests (ships (board_at b s.put e) (element_at r.source e)) (HomeDeed p) (λ _. tt) (λ _. (source_here r mr, eqb-true (board_at b r.source e) p own)))
         (λ _. tt)
     deed_home p Base mr =
         let b : Seat = seat n.grid.rows deals p in
-        cond_both (owns_at b s.put e) (holds s.base (element_at s.put e)) rests (HomeDeed p) (λ own. (target_there, eqb-true (board_at b s.put e) p own)) (λ _. tt)
+        cond_both (owns_at b s.put e) (holds s.base (element_at s.put e)) rests (HomeDeed p) (λ own. (target_here, eqb-true (board_at b s.put e) p own)) (λ _. tt)
     deed_home p (Add r) mr =
         let b : Seat = seat n.grid.rows deals p in
         let own-term : Deed = adds_own r.coefficient (element_at r.source e) (element_at s.put e) in
         let taken-term : Deed = adds_taken r.coefficient (board_at b r.source e) (element_at s.put e) in
         cond_both (owns_at b s.put e) (cond (owns_at b r.source e) own-term taken-term) rests (HomeDeed p)
         (λ own. cond_both (owns_at b r.source e) own-term taken-term (HomeDeed p)
-        (λ from. (source_there r mr, eqb-true (board_at b r.source e) p from, target_there, eqb-true (board_at b s.put e) p own))
-        (λ _. (target_there, eqb-true (board_at b s.put e) p own)))
+        (λ from. (source_here r mr, eqb-true (board_at b r.source e) p from, target_here, eqb-true (board_at b s.put e) p own))
+        (λ _. (target_here, eqb-true (board_at b s.put e) p own)))
         (λ _. tt)
     deed_home p Store mr =
         let b : Seat = seat n.grid.rows deals p in
-        cond_both (owns_at b s.put e) (stores (element_at s.put e)) rests (HomeDeed p) (λ own. (target_there, eqb-true (board_at b s.put e) p own)) (λ _. tt)
+        cond_both (owns_at b s.put e) (stores (element_at s.put e)) rests (HomeDeed p) (λ own. (target_here, eqb-true (board_at b s.put e) p own)) (λ _. tt)
 
     doer_there : (t : Task) → ReadsOf s t → doer n.grid.rows deals s t e < boards_of n.grid
     doer_there (Ship r) mr = (owners_are_boards n deals kept fit sound s e m me).1 r mr

@@ -1,5 +1,5 @@
--- Lists joined and repeated: what is filtered, counted and held of all of them. Assumes nothing.
-use Rattle.std.proofs.Common.{◌≡◌, ℕ, zero, suc, ◌*◌, List, [], ◌∷◌, ◌++◌, length, sum_by, sym, refl, ap, ◌∙◌, ap₂, inl, inr, suc-mul, zero-mul, arith}
+-- Lists joined, repeated and mapped: what is filtered, counted and held of all of them. Assumes nothing.
+use Rattle.std.proofs.Common.{◌≡◌, ℕ, zero, suc, ◌*◌, ◌≤◌, max, ◌⊎◌, List, [], ◌∷◌, ◌++◌, map, length, fold, sum_by, sym, refl, ap, ◌∙◌, ap₂, inl, inr, suc-mul, zero-mul, arith}
 use Rattle.std.specs.List.{flat_map, AllByRecursion}
 use Rattle.std.proofs.ByRecursion.{All-append}
 use Rattle.std.proofs.lemmas.List.{length-append}
@@ -37,13 +37,22 @@ sums_again g zero xs = sym (zero-mul (sum_by g xs))
 sums_again g (suc n) xs = omega (arith, sum_by-append g (again n xs) xs, sums_again g n xs, suc-mul n (sum_by g xs))
 
 -- how long they are
-pub length_joined : {X A : Type 0} (f : X → List A) (xs : List X) → length (flat_map f xs) ≡ sum_by (λ x. length (f x)) xs
-length_joined f [] = refl
-length_joined f (x ∷ xs) = omega (arith, length-append (f x) (flat_map f xs), sum_by-cons (λ y. length (f y)) x xs, length_joined f xs)
-
 pub length_again : {A : Type 0} (n : ℕ) (xs : List A) → length (again n xs) ≡ n * length xs
 length_again zero xs = sym (zero-mul (length xs))
 length_again (suc n) xs = omega (arith, length-append (again n xs) xs, length_again n xs, suc-mul n (length xs))
+
+-- one of a list is one of its images, and at most the greatest
+pub in_mapped : {X Y : Type 0} (f : X → Y) (x : X) (xs : List X) → In x xs → In (f x) (map f xs)
+in_mapped f x [] m = absurd m
+in_mapped f x (y ∷ xs) (inl e) = inl (ap f e)
+in_mapped f x (y ∷ xs) (inr m) = inr (in_mapped f x xs m)
+
+pub greatest_from : (ns : List ℕ) (a n : ℕ) → (n ≤ a) ⊎ In n ns → n ≤ fold max a ns
+greatest_from [] a n (inl h) = h
+greatest_from [] a n (inr m) = absurd m
+greatest_from (x ∷ ns) a n (inl h) = greatest_from ns (max a x) n (inl (omega arith))
+greatest_from (x ∷ ns) a n (inr (inl p)) = greatest_from ns (max a x) n (inl (omega arith))
+greatest_from (x ∷ ns) a n (inr (inr m)) = greatest_from ns (max a x) n (inr m)
 
 -- what holds of all of them
 pub all_joined : {X A : Type 0} (P : A → Type 0) (f : X → List A) (xs : List X) → ((x : X) → In x xs → AllByRecursion P (f x)) → AllByRecursion P (flat_map f xs)

@@ -3,6 +3,8 @@ use Rattle.std.proofs.Common.{◌≡◌, ℕ, ◌+◌, Bool, true, false, cond, 
 use Rattle.std.specs.List.{flat_map}
 use Rattle.std.proofs.lemmas.List.Elements.{filter-append}
 use Rattle.std.proofs.lemmas.List.{append-nil, map-append}
+use Rattle.std.proofs.lemmas.List.Concat.{flat_map-append, flat_map_single}
+use Rattle.std.proofs.lemmas.List.Folds.{flat_map-map}
 use Rattle.std.proofs.lemmas.Bool.{cases_Bool, eqb-true}
 use Rattle.nest.specs.Terms.{Said, Sheet}
 use Rattle.nest.specs.Sound.{nest_kept}
@@ -21,7 +23,7 @@ use Rattle.compiler.specs.Laws.{AllSound}
 use Rattle.compiler.specs.declared.order.Task.{Task}
 use Rattle.compiler.specs.declared.order.Task.TheVariants.{Ship, Base, Add, Store}
 use Rattle.compiler.specs.declared.span.SpanKind.TheVariants.{Plain}
-use Rattle.compiler.proofs.FilteredLists.{joined_append, joined_joined, joined_map, joined_like, joined_single, joined_nothing, present_all}
+use Rattle.compiler.proofs.FilteredLists.{joined_joined, joined_like, joined_nothing, present_all}
 use Rattle.compiler.proofs.CellParts.{present_cells, joined_present}
 use Rattle.compiler.proofs.OrderLaws.{work_covered}
 use Rattle.schedule.specs.Memory.{Event, share_of}
@@ -42,7 +44,7 @@ working_joined f xs = over_joined working refl (filter-append works) f xs
 
 -- step by step
 pub working_map : {X : Type 0} (f : X → Deed) (xs : List X) → working (map f xs) ≡ flat_map (λ x. working (f x ∷ [])) xs
-working_map f xs = ap working (sym (joined_single f xs)) ∙ working_joined (λ x. f x ∷ []) xs
+working_map f xs = ap working (sym (flat_map_single f xs)) ∙ working_joined (λ x. f x ∷ []) xs
 
 -- the share of a board in one event
 event_share : (p o : ℕ) (d : Deed) (w own : Bool) → works d ≡ w → eqb o p ≡ own → share_of p (event_for o d) ≡ cond own (working (d ∷ [])) []
@@ -79,23 +81,23 @@ no_ships : {A : Type 0} (w : Task → List A) (s : Said) → ((r : ReadTerm) →
 no_ships w s none =
     let reads : List ReadTerm = s.reads in
     let adds : flat_map w (map Add reads) ≡ flat_map w (flat_map (λ r. Ship r ∷ (Add r ∷ [])) reads) =
-    joined_map w Add reads ∙ sym (by_reads w reads ∙ joined_like (λ r. w (Ship r) ++ w (Add r)) (λ r. w (Add r)) reads (λ r. ap (λ x. x ++ w (Add r)) (none r))) in
-    joined_append w (map Ship reads) (Base ∷ (map Add reads ++ (Store ∷ [])))
-    ∙ ap (λ x. x ++ flat_map w (Base ∷ (map Add reads ++ (Store ∷ [])))) (joined_map w Ship reads ∙ joined_nothing (λ r. w (Ship r)) reads none)
-    ∙ ap (λ x. w Base ++ x) (joined_append w (map Add reads) (Store ∷ []) ∙ ap (λ x. x ++ flat_map w (Store ∷ [])) adds ∙ sym (joined_append w (flat_map (λ r. Ship r ∷ (Add r ∷ [])) reads) (Store ∷ [])))
+    flat_map-map w Add reads ∙ sym (by_reads w reads ∙ joined_like (λ r. w (Ship r) ++ w (Add r)) (λ r. w (Add r)) reads (λ r. ap (λ x. x ++ w (Add r)) (none r))) in
+    flat_map-append w (map Ship reads) (Base ∷ (map Add reads ++ (Store ∷ [])))
+    ∙ ap (λ x. x ++ flat_map w (Base ∷ (map Add reads ++ (Store ∷ [])))) (flat_map-map w Ship reads ∙ joined_nothing (λ r. w (Ship r)) reads none)
+    ∙ ap (λ x. w Base ++ x) (flat_map-append w (map Add reads) (Store ∷ []) ∙ ap (λ x. x ++ flat_map w (Store ∷ [])) adds ∙ sym (flat_map-append w (flat_map (λ r. Ship r ∷ (Add r ∷ [])) reads) (Store ∷ [])))
 
 only_ships : {A : Type 0} (w : Task → List A) (s : Said) → w Base ≡ [] → ((r : ReadTerm) → w (Add r) ≡ []) → w Store ≡ [] → flat_map w (tasks_of s) ≡ flat_map w (pass_tasks s)
 only_ships w s no-base no-adds no_store =
     let reads : List ReadTerm = s.reads in
     let last : flat_map w (Store ∷ []) ≡ [] = append-nil (w Store) ∙ no_store in
-    let adds : flat_map w (map Add reads) ≡ [] = joined_map w Add reads ∙ joined_nothing (λ r. w (Add r)) reads no-adds in
+    let adds : flat_map w (map Add reads) ≡ [] = flat_map-map w Add reads ∙ joined_nothing (λ r. w (Add r)) reads no-adds in
     let ships : flat_map w (flat_map (λ r. Ship r ∷ (Add r ∷ [])) reads) ≡ flat_map w (map Ship reads) =
-    by_reads w reads ∙ joined_like (λ r. w (Ship r) ++ w (Add r)) (λ r. w (Ship r)) reads (λ r. ap (λ x. w (Ship r) ++ x) (no-adds r) ∙ append-nil (w (Ship r))) ∙ sym (joined_map w Ship reads) in
-    let rest : flat_map w (Base ∷ (map Add reads ++ (Store ∷ []))) ≡ [] = ap₂ (λ a b. a ++ b) no-base (joined_append w (map Add reads) (Store ∷ []) ∙ ap₂ (λ a b. a ++ b) adds last) in
+    by_reads w reads ∙ joined_like (λ r. w (Ship r) ++ w (Add r)) (λ r. w (Ship r)) reads (λ r. ap (λ x. w (Ship r) ++ x) (no-adds r) ∙ append-nil (w (Ship r))) ∙ sym (flat_map-map w Ship reads) in
+    let rest : flat_map w (Base ∷ (map Add reads ++ (Store ∷ []))) ≡ [] = ap₂ (λ a b. a ++ b) no-base (flat_map-append w (map Add reads) (Store ∷ []) ∙ ap₂ (λ a b. a ++ b) adds last) in
     let front : flat_map w (tasks_of s) ≡ flat_map w (map Ship reads) =
-    joined_append w (map Ship reads) (Base ∷ (map Add reads ++ (Store ∷ []))) ∙ ap (λ x. flat_map w (map Ship reads) ++ x) rest ∙ append-nil (flat_map w (map Ship reads)) in
+    flat_map-append w (map Ship reads) (Base ∷ (map Add reads ++ (Store ∷ []))) ∙ ap (λ x. flat_map w (map Ship reads) ++ x) rest ∙ append-nil (flat_map w (map Ship reads)) in
     let pass : flat_map w (pass_tasks s) ≡ flat_map w (map Ship reads) =
-    ap₂ (λ a b. a ++ b) no-base (joined_append w (flat_map (λ r. Ship r ∷ (Add r ∷ [])) reads) (Store ∷ []) ∙ ap₂ (λ a b. a ++ b) ships last) ∙ append-nil (flat_map w (map Ship reads)) in
+    ap₂ (λ a b. a ++ b) no-base (flat_map-append w (flat_map (λ r. Ship r ∷ (Add r ∷ [])) reads) (Store ∷ []) ∙ ap₂ (λ a b. a ++ b) ships last) ∙ append-nil (flat_map w (map Ship reads)) in
     front ∙ sym pass
 
 -- what a board does for a task in an iteration, as a list of one or none
@@ -164,7 +166,7 @@ module _ (n : Sheet) (deals : Deals) (kept : nest_kept n.grid n.arrays n.sweeps 
       ∙ sym (work_covered n deals kept fit sound p k s t m mt) in
       share_joined p (λ t. flat_map (event_in q deals s t) es) (tasks_of s)
       ∙ joined_same (λ t. share_of p (flat_map (event_in q deals s t) es)) (λ t. working (order_deeds b s (task_order b k s t))) (tasks_of s) task
-      ∙ sym (joined_map (λ o. working (order_deeds b s o)) (task_order b k s) (tasks_of s))
+      ∙ sym (flat_map-map (λ o. working (order_deeds b s o)) (task_order b k s) (tasks_of s))
       ∙ sym (working_joined (order_deeds b s) (map (task_order b k s) (tasks_of s)))
 
   seq_share : (k : ℕ) (s : Said)

@@ -1,6 +1,7 @@
 -- How many letters the events of a nest put and take. Assumes nothing.
 use Rattle.std.proofs.Common.{◌≡◌, ℕ, ◌+◌, ◌*◌, Bool, true, false, cond, eqb, List, [], ◌∷◌, ◌++◌, map, length, sum_by, sym, refl, ap, ◌∙◌, ⊎_elim, arith}
 use Rattle.std.specs.List.{flat_map}
+use Rattle.std.proofs.lemmas.List.Concat.{length-flat_map}
 use Rattle.std.proofs.lemmas.List.Sums.{sum_by-cons, sum_by-append}
 use Rattle.std.proofs.lemmas.Bool.{cases_Bool, cond_both, eqb-true, eqb-false, eq-eqb, ne_eqb}
 use Rattle.nest.specs.Terms.{Said, Sheet}
@@ -22,21 +23,14 @@ use Rattle.compiler.proofs.ListSums.{sums_alike, sums_plus, sums_none, sums_swap
 use Rattle.schedule.specs.Memory.{Event}
 use Rattle.schedule.specs.Events.{doer, event_for, event_in, pass_tasks, events_by, statement_events, sweep_events, nest_events}
 use Rattle.schedule.specs.Laws.{puts_in, takes_in}
-use Rattle.schedule.proofs.EventLists.{sums_joined, sums_again, length_joined}
-
--- a test of two numbers goes either way
-either_way : (x y : ℕ) → eqb x y ≡ eqb y x
-either_way x y =
-    ⊎_elim
-    (λ same. same ∙ sym (eq-eqb y x (sym (eqb-true x y same))))
-    (λ other. other ∙ sym (ne_eqb y x (λ back. eqb-false x y other (sym back))))
-    (cases_Bool (eqb x y))
+use Rattle.schedule.proofs.EventLists.{sums_joined, sums_again}
+use Rattle.schedule.proofs.WaitingLetters.{eqb_turned}
 
 -- a ship is put where source and target have different owners
 ship_put : (x y : ℕ) (e : Element) → puts_in (cond (eqb x x) (cond (eqb y x) rests (ships y e)) rests) ≡ length {A = ℕ × ℕ} (cond (eqb x y) [] ((x, y) ∷ []))
 ship_put x y e =
     ap (λ w. puts_in (cond w (cond (eqb y x) rests (ships y e)) rests)) (eq-eqb x x refl)
-    ∙ ap (λ w. puts_in (cond w rests (ships y e))) (either_way y x)
+    ∙ ap (λ w. puts_in (cond w rests (ships y e))) (eqb_turned y x)
     ∙ by_test (eqb x y)
   where
     by_test : (w : Bool) → puts_in (cond w rests (ships y e)) ≡ length {A = ℕ × ℕ} (cond w [] ((x, y) ∷ []))
@@ -127,8 +121,8 @@ module _ (f : Deed → ℕ) (q : ℕ) (deals : Deals) (s : Said) (by : ByLetters
   letters_sum : length (letters_in (seat q deals 0) s) ≡ sum_by (λ r. sum_by (each_read r) (iterations s.i s.j)) s.reads
   letters_sum =
       let b : Seat = seat q deals 0 in
-      length_joined (letters_for b s) s.reads
-      ∙ sums_alike (λ r. length (letters_for b s r)) (λ r. sum_by (each_read r) (iterations s.i s.j)) s.reads (λ r. length_joined (letter_in b s r) (iterations s.i s.j))
+      length-flat_map (letters_for b s) s.reads
+      ∙ sums_alike (λ r. length (letters_for b s r)) (λ r. sum_by (each_read r) (iterations s.i s.j)) s.reads (λ r. length-flat_map (letter_in b s r) (iterations s.i s.j))
 
   all_weighs : sum_by weight (events_by All q deals s) ≡ length (letters_in (seat q deals 0) s)
   all_weighs =

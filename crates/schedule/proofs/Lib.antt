@@ -19,3 +19,4 @@ pub mod LetterCounts
 pub mod EventsFit
 pub mod NestRuns
 pub mod OneSchedule
+pub mod ElementsThere

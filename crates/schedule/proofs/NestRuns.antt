@@ -20,26 +20,12 @@ use Rattle.schedule.specs.Memory.{Event, Memory, after_event, after_events, Can,
 use Rattle.schedule.specs.Events.{statement_events, again, sweep_events, nest_events}
 use Rattle.schedule.specs.Start.{Agrees}
 use Rattle.schedule.specs.Laws.{StatementsHappen}
-
--- one of a list is at most the greatest
-greatest_from : (xs : List ℕ) (a : ℕ) → a ≤ fold max a xs
-greatest_from [] a = omega arith
-greatest_from (x ∷ xs) a = omega (arith, greatest_from xs (max a x))
-
-at_most_greatest : (xs : List ℕ) (a x : ℕ) → In x xs → x ≤ fold max a xs
-at_most_greatest [] a x m = absurd m
-at_most_greatest (y ∷ xs) a x (inl e) = omega (arith, greatest_from xs (max a y))
-at_most_greatest (y ∷ xs) a x (inr m) = at_most_greatest xs (max a y) x m
-
-in_mapped : {X Y : Type 0} (f : X → Y) (x : X) (xs : List X) → In x xs → In (f x) (map f xs)
-in_mapped f x [] m = absurd m
-in_mapped f x (y ∷ xs) (inl e) = inl (ap f e)
-in_mapped f x (y ∷ xs) (inr m) = inr (in_mapped f x xs m)
+use Rattle.schedule.proofs.EventLists.{in_mapped, greatest_from}
 
 -- the depth of a nest has room for each statement
 pub depth_enough : (n : Sheet) (deals : Deals) (s : Said) → In s n.statements → statement_depth n.grid deals s ≤ depth_of n deals
 depth_enough n deals s m =
-    at_most_greatest (map (statement_depth n.grid deals) n.statements) 0 (statement_depth n.grid deals s) (in_mapped (statement_depth n.grid deals) s n.statements m)
+    greatest_from (map (statement_depth n.grid deals) n.statements) 0 (statement_depth n.grid deals s) (inr (in_mapped (statement_depth n.grid deals) s n.statements m))
 
 -- what can happen at a depth can happen at a greater one
 can_deeper : {V : Type 0} (d e : ℕ) (m : Memory V) (p : ℕ) (x : Deed) → d ≤ e → Can d m p x → Can e m p x

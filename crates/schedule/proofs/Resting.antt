@@ -21,31 +21,25 @@ rested (adds_own c r e ∷ xs) = adds_own c r e ∷ xs
 rested (adds_taken c q e ∷ xs) = adds_taken c q e ∷ xs
 rested (stores e ∷ xs) = stores e ∷ xs
 
-no_such : {X : Type 0} (x : X) (xs : List X) → x ∷ xs ≡ [] → ⊥
-no_such x xs e = let z : ◌≡◌ {A = ℕ} 0 1 = cc in omega arith
-
 -- where there is no work, nothing is left
 pub nothing_left : (xs : List Deed) → working xs ≡ [] → rested xs ≡ []
 nothing_left [] e = refl
 nothing_left (rests ∷ xs) e = nothing_left xs e
-nothing_left (ships q x ∷ xs) e = absurd (no_such _ _ e)
-nothing_left (holds c x ∷ xs) e = absurd (no_such _ _ e)
-nothing_left (adds_own c r x ∷ xs) e = absurd (no_such _ _ e)
-nothing_left (adds_taken c q x ∷ xs) e = absurd (no_such _ _ e)
-nothing_left (stores x ∷ xs) e = absurd (no_such _ _ e)
-
-same_heads : {X : Type 0} (x y : X) (xs ys zs : List X) → x ∷ xs ≡ y ∷ ys → (x ∷ zs ≡ y ∷ zs) × (xs ≡ ys)
-same_heads x y xs ys zs e = (cc, cc)
+nothing_left (ships q x ∷ xs) e = cc
+nothing_left (holds c x ∷ xs) e = cc
+nothing_left (adds_own c r x ∷ xs) e = cc
+nothing_left (adds_taken c q x ∷ xs) e = cc
+nothing_left (stores x ∷ xs) e = cc
 
 -- otherwise the first piece of work comes next
 pub work_next : (xs : List Deed) (d : Deed) (ds : List Deed) → working xs ≡ d ∷ ds → (rest : List Deed) × (rested xs ≡ d ∷ rest) × (working rest ≡ ds)
-work_next [] d ds e = absurd (no_such d ds (sym e))
+work_next [] d ds e = absurd cc
 work_next (rests ∷ xs) d ds e = work_next xs d ds e
-work_next (ships q x ∷ xs) d ds e = (xs, (same_heads _ _ _ _ _ e).0, (same_heads _ _ _ _ xs e).1)
-work_next (holds c x ∷ xs) d ds e = (xs, (same_heads _ _ _ _ _ e).0, (same_heads _ _ _ _ xs e).1)
-work_next (adds_own c r x ∷ xs) d ds e = (xs, (same_heads _ _ _ _ _ e).0, (same_heads _ _ _ _ xs e).1)
-work_next (adds_taken c q x ∷ xs) d ds e = (xs, (same_heads _ _ _ _ _ e).0, (same_heads _ _ _ _ xs e).1)
-work_next (stores x ∷ xs) d ds e = (xs, (same_heads _ _ _ _ _ e).0, (same_heads _ _ _ _ xs e).1)
+work_next (ships q x ∷ xs) d ds e = (xs, cc, cc)
+work_next (holds c x ∷ xs) d ds e = (xs, cc, cc)
+work_next (adds_own c r x ∷ xs) d ds e = (xs, cc, cc)
+work_next (adds_taken c q x ∷ xs) d ds e = (xs, cc, cc)
+work_next (stores x ∷ xs) d ds e = (xs, cc, cc)
 
 module _ {V : Type 0} (k : Setting V) (boards depth : ℕ) (There : Element → Type 0) (owner : Element → ℕ) where
   -- one board goes on after it went on

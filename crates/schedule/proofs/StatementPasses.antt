@@ -1,6 +1,7 @@
 -- The events of a statement on a memory with a list of letters that wait: of one task over all iterations, and of all tasks
 -- in one iteration. Assumes nothing.
 use Rattle.std.proofs.Common.{◌≡◌, ℕ, ◌+◌, ◌<◌, ◌≤◌, Bool, true, false, cond, eqb, List, [], ◌∷◌, ◌++◌, map, length, fold, sym, refl, ap, ◌∙◌, subst, inl, inr, append-nil, arith, length-append}
+use Rattle.std.proofs.lemmas.List.Concat.{flat_map-append}
 use Rattle.std.specs.List.{flat_map}
 use Rattle.std.proofs.lemmas.List.{append_assoc}
 use Rattle.std.proofs.lemmas.Bool.{true≢false}
@@ -15,7 +16,6 @@ use Rattle.compiler.specs.Orders.{tasks_of}
 use Rattle.compiler.specs.Cells.{element_at}
 use Rattle.compiler.specs.declared.order.Task.{Task}
 use Rattle.compiler.specs.declared.order.Task.TheVariants.{Ship, Base, Add, Store}
-use Rattle.compiler.proofs.FilteredLists.{joined_append}
 use Rattle.schedule.specs.Boards.{coefficient_of}
 use Rattle.schedule.specs.Memory.{Event, Memory}
 use Rattle.schedule.specs.Events.{event_in, pass_tasks}
@@ -150,9 +150,9 @@ module _ {V : Type 0} (k : Setting V) (depth g : ℕ) (deals : Deals) (s : Said)
       let last : Goes k depth (memory_of elements full []) (events (Store ∷ [])) end =
       goes_append k depth (flat_map (event_in g deals s Store) es) [] (memory_of elements full []) end end (stores_go es elements full []) (tt, refl) in
       let summed : Goes k depth (memory_of elements based letters) (events adds) end =
-      goes_by k depth (events adds) (events (map Add s.reads) ++ events (Store ∷ [])) (memory_of elements based letters) end (joined_append (λ t. flat_map (event_in g deals s t) es) (map Add s.reads) (Store ∷ []))
+      goes_by k depth (events adds) (events (map Add s.reads) ++ events (Store ∷ [])) (memory_of elements based letters) end (flat_map-append (λ t. flat_map (event_in g deals s t) es) (map Add s.reads) (Store ∷ []))
       (goes_append k depth (events (map Add s.reads)) (events (Store ∷ [])) (memory_of elements based letters) (memory_of elements full []) end (all_adds_go es elements s.reads based) last) in
-      goes_by k depth (events (tasks_of s)) (events (map Ship s.reads) ++ events (Base ∷ adds)) start end (joined_append (λ t. flat_map (event_in g deals s t) es) (map Ship s.reads) (Base ∷ adds))
+      goes_by k depth (events (tasks_of s)) (events (map Ship s.reads) ++ events (Base ∷ adds)) start end (flat_map-append (λ t. flat_map (event_in g deals s t) es) (map Ship s.reads) (Base ∷ adds))
       (goes_append k depth (events (map Ship s.reads)) (events (Base ∷ adds)) start (memory_of elements held letters) end (all_ships_go es elements held s.reads [] room)
       (goes_append k depth (flat_map (event_in g deals s Base) es) (events adds) (memory_of elements held letters) (memory_of elements based letters) end (bases_go es elements held letters) summed))
 

@@ -16,18 +16,12 @@ use Rattle.sequential.specs.declared.iteration.Iteration.{Iteration}
 use Rattle.compiler.specs.Spans.{seat}
 use Rattle.compiler.specs.Cells.{element_at}
 use Rattle.compiler.specs.Totals.{boards_of, letter_in, letters_for, letters_in, between, room_for, statement_depth}
+use Rattle.schedule.proofs.EventLists.{in_mapped, greatest_from}
 use Rattle.schedule.proofs.WaitingLetters.{Waiting, rows_in, rows_append, eqb_turned}
 use Rattle.schedule.proofs.TaskEvents.{receiver, sender, letter_of}
 use Rattle.schedule.proofs.StatementPasses.{Room, letters_over, all_letters}
 
--- one of a list is at most the greatest
-greatest_from : (ns : List ℕ) (a n : ℕ) → (n ≤ a) ⊎ In n ns → n ≤ fold max a ns
-greatest_from [] a n (inl h) = h
-greatest_from [] a n (inr m) = absurd m
-greatest_from (x ∷ ns) a n (inl h) = greatest_from ns (max a x) n (inl (omega arith))
-greatest_from (x ∷ ns) a n (inr (inl p)) = greatest_from ns (max a x) n (inl (omega arith))
-greatest_from (x ∷ ns) a n (inr (inr m)) = greatest_from ns (max a x) n (inr m)
-
+-- what is in a part is in the whole
 in_right : {X : Type 0} (x : X) (xs ys : List X) → In x ys → In x (xs ++ ys)
 in_right x [] ys m = m
 in_right x (y ∷ xs) ys m = inr (in_right x xs ys m)
@@ -36,11 +30,6 @@ in_left : {X : Type 0} (x : X) (xs ys : List X) → In x xs → In x (xs ++ ys)
 in_left x [] ys m = absurd m
 in_left x (y ∷ xs) ys (inl e) = inl e
 in_left x (y ∷ xs) ys (inr m) = inr (in_left x xs ys m)
-
-in_mapped : {X Y : Type 0} (f : X → Y) (x : X) (xs : List X) → In x xs → In (f x) (map f xs)
-in_mapped f x [] m = absurd m
-in_mapped f x (y ∷ xs) (inl e) = inl (ap f e)
-in_mapped f x (y ∷ xs) (inr m) = inr (in_mapped f x xs m)
 
 in_joined : {X Y : Type 0} (f : X → List Y) (x : X) (y : Y) (xs : List X) → In x xs → In y (f x) → In y (flat_map f xs)
 in_joined f x y [] m l = absurd m

@@ -17,18 +17,19 @@ use Rattle.sequential.specs.Run.{Setting, setting_of, Buffers, value_in, target_
 use Rattle.sequential.specs.Laws.{In, Distinct, StoredTogether}
 use Rattle.sequential.specs.declared.iteration.Iteration.{Iteration}
 use Rattle.sequential.specs.declared.work.Work.TheVariants.{HoldAndStore}
-use Rattle.sequential.proofs.Kept.{Parts, parts_of, reached, target_reached}
-use Rattle.sequential.proofs.Targets.{in_iterations, targets_apart, target_below}
+use Rattle.sequential.proofs.Kept.{Parts, parts_of}
+use Rattle.sequential.proofs.Targets.{targets_apart, target_below}
 use Rattle.sequential.proofs.ModeLaws.{each_in, modes_mean}
 use Rattle.compiler.specs.Spans.{seat}
 use Rattle.compiler.specs.Cells.{element_at}
 use Rattle.compiler.specs.Totals.{letters_in, between, room_for, statement_depth}
-use Rattle.compiler.proofs.OrderLaws.{read_kept_lem, owners_are_boards}
+use Rattle.compiler.proofs.OrderLaws.{owners_are_boards}
 use Rattle.schedule.specs.Boards.{written}
 use Rattle.schedule.specs.Memory.{Event, Memory}
 use Rattle.schedule.specs.Events.{event_in, pass_tasks, events_by, statement_events}
-use Rattle.schedule.specs.Start.{There, Agrees}
+use Rattle.schedule.specs.Start.{Agrees}
 use Rattle.schedule.specs.Laws.{StatementsHappen}
+use Rattle.schedule.proofs.ElementsThere.{target_there, read_there}
 use Rattle.schedule.proofs.EventsGo.{memory_of, memory_without, Goes, goes_append, goes_from}
 use Rattle.schedule.proofs.WrittenValues.{agrees_written}
 use Rattle.schedule.proofs.TaskEvents.{target_at, letter_of}
@@ -44,12 +45,6 @@ record Leads {V : Type 0} (k : Setting V) (depth : ℕ) (m : Memory V) (events :
   agrees : Agrees k.arrays k.outside elements buffer
 
 module _ {V : Type 0} (k : Setting V) (depth g : ℕ) (deals : Deals) (s : Said) (kept : Parts k.arrays s) where
-  target_there : (e : Iteration) → In e (iterations s.i s.j) → There k.arrays (target_at s e)
-  target_there e m = (target_reached k.arrays s kept e (in_iterations s e m)).element
-
-  read_there : (e : Iteration) → In e (iterations s.i s.j) → (r : ReadTerm) → In r s.reads → There k.arrays (element_at r.source e)
-  read_there e m r l = (reached k.arrays s kept e (in_iterations s e m) 0 r.source (read_kept_lem k.arrays s r kept l)).element
-
   elements_apart : Distinct (map (target_at s) (iterations s.i s.j))
   elements_apart = distinct_back (target_at s) (λ (x : Element). place_of k.arrays x.0 x.1 x.2) (iterations s.i s.j) (targets_apart k.arrays s kept)
 
@@ -64,10 +59,10 @@ module _ {V : Type 0} (k : Setting V) (depth g : ℕ) (deals : Deals) (s : Said)
       let full : V = values_held k s elements (e ∷ []) held (target_at s e) in
       let same : full ≡ get_or (set b.held place v) place k.outside =
       stored_there k s elements held (e ∷ []) ((λ l. l), tt) e (inl refl)
-      ∙ values_agree k s elements b.elements e agrees (read_there e m)
+      ∙ values_agree k s elements b.elements e agrees (read_there k.arrays s kept e m)
       ∙ sym (get_or-set_same b.held place v k.outside (omega arith)) in
       subst (λ w. Agrees k.arrays k.outside (written (target_at s e) full elements) (set b.elements place w)) same
-      (agrees_written k.arrays k.outside elements b.elements (target_at s e) full (target_there e m) (omega arith) agrees)
+      (agrees_written k.arrays k.outside elements b.elements (target_at s e) full (target_there k.arrays s kept e m) (omega arith) agrees)
 
   one_by_one : (es : List Iteration) → ((e : Iteration) → In e es → In e (iterations s.i s.j))
       → ((elements : Element → V) (e : Iteration) → In e (iterations s.i s.j) → (r : ReadTerm) → In r s.reads → Room depth (letter_of g deals s elements r e))
@@ -105,7 +100,7 @@ module _ {V : Type 0} (k : Setting V) (depth g : ℕ) (deals : Deals) (s : Said)
         elements = all_stored s full elements es;
         held = full;
         goes = together_goes k depth g deals s es elements held (room_together depth g deals s elements room);
-        agrees = agrees_together k s elements held b (in_mode All k s es b) elements_apart target_there read_there agrees stored;
+        agrees = agrees_together k s elements held b (in_mode All k s es b) elements_apart (target_there k.arrays s kept) (read_there k.arrays s kept) agrees stored;
       }
   leads_by Seq room b le lh stored elements held agrees =
       one_by_one (iterations s.i s.j) (λ e m. m) (λ values e m r l. room_alone depth g deals s values room e m r l) b le lh elements held agrees

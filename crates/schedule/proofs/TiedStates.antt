@@ -6,6 +6,7 @@ use Rattle.sections.specs.Order.{Element}
 use Rattle.network.specs.Request.{replaced, changed}
 use Rattle.network.proofs.Moves.{replaced_other}
 use Rattle.schedule.specs.Boards.{Own, same_element, written}
+use Rattle.schedule.proofs.WrittenValues.{written_elsewhere}
 
 pub replaced_here : {X : Type 0} (p : ℕ) (a : X) (f : ℕ → X) → replaced p a f p ≡ a
 unfolding replaced
@@ -19,24 +20,6 @@ rows_left {L} p q row = fun_ext (λ i. fun_ext (λ j. pick (eqb i p && eqb j q) 
     pick : (b : Bool) (r : List L) → cond b r r ≡ r
     pick true r = refl
     pick false r = refl
-
-pub same_element_lem : (x y : Element) → same_element x y ≡ true → x ≡ y
-same_element_lem x y h =
-    let first = and_parts (eqb x.0 y.0 && eqb x.1 y.1) (eqb x.2 y.2) h in
-    let second = and_parts (eqb x.0 y.0) (eqb x.1 y.1) first.0 in
-    let a = eqb-true x.0 y.0 second.0 in
-    let b = eqb-true x.1 y.1 second.1 in
-    let c = eqb-true x.2 y.2 first.1 in
-    λ i. (a i, b i, c i)
-
--- at another element a write changes nothing
-pub written_other : {V : Type 0} (e : Element) (v : V) (f : Element → V) (x : Element) → x ≢ e → written e v f x ≡ f x
-unfolding written
-written_other e v f x ne = pick (cases_Bool (same_element x e))
-  where
-    pick : (same_element x e ≡ true) ⊎ (same_element x e ≡ false) → cond (same_element x e) v (f x) ≡ f x
-    pick (inl h) = absurd (ne (same_element_lem x e h))
-    pick (inr h) = cond-false (same_element x e) v (f x) h
 
 -- writes of one value keep what was equal equal
 pub written_like : {V : Type 0} (e : Element) (v w : V) (f g : Element → V) (x : Element) → v ≡ w → f x ≡ g x → written e v f x ≡ written e w g x
@@ -65,7 +48,7 @@ module _ {V : Type 0} (There : Element → Type 0) (owner : Element → ℕ) (ow
             ap (λ q. f (replaced p new own q) e) h ∙ ap (λ o. f o e) (replaced_here p new own) ∙ ap (λ x. x e) same
             ∙ written_like at v w (f (own p)) g e value (ap (λ q. f (own q) e) (sym h) ∙ tied e there)
         pick (inr ne) =
-            ap (λ o. f o e) (replaced_other p (owner e) new own ne) ∙ tied e there ∙ sym (written_other at w g e (λ x. ne (ap owner x ∙ mine)))
+            ap (λ o. f o e) (replaced_other p (owner e) new own ne) ∙ tied e there ∙ sym (written_elsewhere at w g e (λ x. ne (ap owner x ∙ mine)))
 
     -- what the owner has at its own element
     pub has : (e : Element) → There e → owner e ≡ p → f (own p) e ≡ g e

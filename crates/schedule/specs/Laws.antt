@@ -11,7 +11,7 @@ use Rattle.sequential.specs.Run.{Setting, setting_of, Buffers, buffers_of, after
 use Rattle.network.specs.Network.{State}
 use Rattle.network.specs.Request.{request}
 use Rattle.network.specs.Runs.{AllRan, state_after, Complete}
-use Rattle.compiler.specs.Deeds.{Deed, rests, ships, holds, adds_own, adds_taken, stores, working}
+use Rattle.compiler.specs.Deeds.{Deed, ships, adds_taken, working}
 use Rattle.compiler.specs.Laws.{AllSound}
 use Rattle.compiler.specs.Totals.{boards_of, steps_of, letters_of, depth_of, statement_depth}
 use Rattle.schedule.specs.Boards.{Own, boards_that}
@@ -21,20 +21,12 @@ use Rattle.schedule.specs.Start.{There, Agrees, OwnersHave, Tied, Loaded}
 
 -- how many letters some steps put, and how many they take
 abbrev pub puts_in : Deed → ℕ
-puts_in rests = 0
 puts_in (ships q e) = 1
-puts_in (holds c e) = 0
-puts_in (adds_own c r e) = 0
-puts_in (adds_taken c q e) = 0
-puts_in (stores e) = 0
+puts_in _ = 0
 
 abbrev pub takes_in : Deed → ℕ
-takes_in rests = 0
-takes_in (ships q e) = 0
-takes_in (holds c e) = 0
-takes_in (adds_own c r e) = 0
 takes_in (adds_taken c q e) = 1
-takes_in (stores e) = 0
+takes_in _ = 0
 
 -- boards were asked by a list, each request was answered ran, and they ended: each ran all its steps, and the values at
 -- the owners are those of one memory

@@ -19,24 +19,16 @@ pub record Memory (V : Type 0) : Type 0 where
 -- board p adds a letter of a row to what is held for a target; from an empty row it takes nothing
 unfoldable pub add_taken : {V : Type 0} → Setting V → Memory V → ℕ → ℕ → ℕ → Element → List V → Memory V
 add_taken k m p c q e [] = m
-add_taken k m p c q e (letter ∷ _) = record {
-  elements = m.elements;
-  held = written e (with_term k c letter (m.held e)) m.held;
-  row = changed q p without_oldest m.row;
-}
+add_taken k m p c q e (letter ∷ _) = record m { held = written e (with_term k c letter (m.held e)) m.held; row = changed q p without_oldest m.row }
 
 -- what an event does to the memory
 unfoldable pub happens : {V : Type 0} → Setting V → Memory V → ℕ → Deed → Memory V
 happens k m p rests = m
-happens k m p (ships q e) = record { elements = m.elements; held = m.held; row = changed p q (joined (m.elements e)) m.row }
-happens k m p (holds c e) = record { elements = m.elements; held = written e (coefficient_of k c) m.held; row = m.row }
-happens k m p (adds_own c r e) = record {
-  elements = m.elements;
-  held = written e (with_term k c (m.elements r) (m.held e)) m.held;
-  row = m.row;
-}
+happens k m p (ships q e) = record m { row = changed p q (joined (m.elements e)) m.row }
+happens k m p (holds c e) = record m { held = written e (coefficient_of k c) m.held }
+happens k m p (adds_own c r e) = record m { held = written e (with_term k c (m.elements r) (m.held e)) m.held }
 happens k m p (adds_taken c q e) = add_taken k m p c q e (m.row q p)
-happens k m p (stores e) = record { elements = written e (m.held e) m.elements; held = m.held; row = m.row }
+happens k m p (stores e) = record m { elements = written e (m.held e) m.elements }
 
 abbrev pub after_event : {V : Type 0} → Setting V → Memory V → Event → Memory V
 after_event k m ev = happens k m ev.0 ev.1
@@ -47,12 +39,9 @@ after_events k m events = fold (after_event k) m events
 
 -- an event can happen: a letter that is put has room, a letter that is taken is there
 abbrev pub Can : {V : Type 0} → ℕ → Memory V → ℕ → Deed → Type 0
-Can depth m p rests = Unit {0}
 Can depth m p (ships q e) = length (m.row p q) < depth
-Can depth m p (holds c e) = Unit {0}
-Can depth m p (adds_own c r e) = Unit {0}
 Can depth m p (adds_taken c q e) = 0 < length (m.row q p)
-Can depth m p (stores e) = Unit {0}
+Can depth m p _ = Unit {0}
 
 -- a list of events can happen one after the other
 abbrev pub AllCan : {V : Type 0} → Setting V → ℕ → Memory V → List Event → Type 0
