@@ -1,5 +1,5 @@
 -- The first place of an order, and what is left from there. Assumes nothing.
-use Rattle.std.proofs.Common.{◌≡◌, ℕ, zero, suc, ◌+◌, ◌-◌, ◌<◌, ◌≤◌, true, ◌&&◌, ltb, leb, List, [], ◌++◌, length, drop, Some, None, sym, refl, ap, ◌∙◌, arith}
+use Rattle.std.proofs.Common.{◌≡◌, ℕ, zero, suc, ◌+◌, ◌-◌, ◌<◌, true, ◌&&◌, ltb, leb, List, [], ◌++◌, length, drop, Some, None, sym, refl, ap, ◌∙◌, arith}
 use Rattle.std.specs.List.{range_with_len, flat_map}
 use Rattle.std.proofs.lemmas.List.{append_assoc, append-nil, drop_more, drop_all}
 use Rattle.std.proofs.lemmas.Bool.{and_parts, and_from, ltb-true, lt-ltb, le-leb}
@@ -8,10 +8,7 @@ use Rattle.compiler.specs.declared.order.Order.{Order}
 use Rattle.compiler.specs.Spans.{Seat}
 use Rattle.compiler.specs.Deeds.{order_deeds}
 use Rattle.schedule.specs.Events.{again}
-use Rattle.standing.specs.declared.place.Phase.{Phase}
 use Rattle.standing.specs.declared.place.Place.{Place}
-use Rattle.standing.specs.declared.place.Standing.{Standing}
-use Rattle.standing.specs.declared.place.Standing.TheVariants.{Before, End}
 use Rattle.standing.specs.Left.{cell_deeds, row_deeds, deeds_of, no_order, order_at, statement_of, order_left, sweeps_left, todo_from, in_program}
 use Rattle.standing.specs.Moves.{Passes, FirstWithCells, Leaves, StandsIn, first_phase, has_cells, place_in, reads_of}
 use Rattle.standing.proofs.CellLists.{counting_more, order_rows, row_first}
@@ -83,41 +80,23 @@ sweep_left b n orders s h =
     let more : n.sweeps - s ≡ suc (n.sweeps - (s + 1)) = omega arith in
     rw more (sym (again_front (n.sweeps - (s + 1)) (flat_map (deeds_of b n) orders)))
 
--- nothing is left from the sweep after the last on, nor where no order has cells
-pub sweeps_done : (n : Sheet) (orders : List Order) (s : ℕ) → n.sweeps ≤ s → Leaves n orders End (λ b. again (n.sweeps - s) (flat_map (deeds_of b n) orders))
-sweeps_done n orders s h b = let none : n.sweeps - s ≡ 0 = omega arith in rw none
-
+-- nothing is left where no order has cells
 passed_all : (n : Sheet) (orders : List Order) (k : ℕ) → Passes orders k (length orders) → (b : Seat) → flat_map (deeds_of b n) (drop k orders) ≡ []
 passed_all n orders k p b = p n b ∙ ap (flat_map (deeds_of b n)) (drop_all (length orders) orders (omega arith))
 
-pub sweeps_idle : (n : Sheet) (orders : List Order) (s : ℕ) → FirstWithCells orders 0 None → Leaves n orders End (λ b. again (n.sweeps - s) (flat_map (deeds_of b n) orders))
+pub sweeps_idle : (n : Sheet) (orders : List Order) (s : ℕ) → FirstWithCells orders 0 None → Leaves n orders None (λ b. again (n.sweeps - s) (flat_map (deeds_of b n) orders))
 sweeps_idle n orders s p b = sym (ap (again (n.sweeps - s)) (passed_all n orders 0 p b) ∙ again_nothing (n.sweeps - s))
 
 -- the first place of the first order with cells has all that is left from an order on
-pub enters : (n : Sheet) (orders : List Order) (s k m : ℕ) (at : Place) → at ≡ place_in n orders s m → FirstWithCells orders k (Some m) → Leaves n orders (Before at) (λ b. sweeps_left b n orders s k)
+pub enters : (n : Sheet) (orders : List Order) (s k m : ℕ) (at : Place) → at ≡ place_in n orders s m → FirstWithCells orders k (Some m) → Leaves n orders (Some at) (λ b. sweeps_left b n orders s k)
 enters n orders s k m at is f b =
     ap (todo_from b n orders) is ∙ place_left b n orders s m f.1 f.2
     ∙ ap (λ d. d ++ again (n.sweeps - (s + 1)) (flat_map (deeds_of b n) orders)) (sym (f.0 n b))
 
 -- at the start of a sweep that is all of the sweep and those after it
 pub enters_sweep : (n : Sheet) (orders : List Order) (s m : ℕ) (at : Place) → at ≡ place_in n orders s m → s < n.sweeps → FirstWithCells orders 0 (Some m)
-    → Leaves n orders (Before at) (λ b. again (n.sweeps - s) (flat_map (deeds_of b n) orders))
+    → Leaves n orders (Some at) (λ b. again (n.sweeps - s) (flat_map (deeds_of b n) orders))
 enters_sweep n orders s m at is h f b = enters n orders s 0 m at is f b ∙ sweep_left b n orders s h
 
--- where no order has cells from an order on, what is left is that of the next sweep
-pub leaves_sweep : (n : Sheet) (orders : List Order) (s k : ℕ) (r : Standing) → FirstWithCells orders k None
-    → Leaves n orders r (λ b. again (n.sweeps - (s + 1)) (flat_map (deeds_of b n) orders)) → Leaves n orders r (λ b. sweeps_left b n orders s k)
-leaves_sweep n orders s k r p left b =
-    left b ∙ ap (λ d. d ++ again (n.sweeps - (s + 1)) (flat_map (deeds_of b n) orders)) (sym (passed_all n orders k p b))
-
-pub enters_in : (n : Sheet) (orders : List Order) (s k m : ℕ) (at : Place) → at ≡ place_in n orders s m → s < n.sweeps → FirstWithCells orders k (Some m) → StandsIn n orders (Before at)
+pub enters_in : (n : Sheet) (orders : List Order) (s k m : ℕ) (at : Place) → at ≡ place_in n orders s m → s < n.sweeps → FirstWithCells orders k (Some m) → StandsIn n orders (Some at)
 enters_in n orders s k m at is h f = ap (in_program n orders) is ∙ place_in_lem n orders s m (lt-ltb s n.sweeps h) f.1 f.2
-
--- a place made from an order is that order's first
-pub place_made : (n : Sheet) (orders : List Order) (s k : ℕ) (o : Order) (reads : ℕ) (p : Phase) → order_at orders k ≡ o → reads ≡ reads_of n o → p ≡ first_phase o.work reads
-    → record { sweep = s; order = k; i = o.i.first; j = o.j.first; phase = p } ≡ place_in n orders s k
-place_made n orders s k o reads p same r f =
-    ap made (f ∙ ap (first_phase o.work) r) ∙ ap (λ x. record { sweep = s; order = k; i = x.i.first; j = x.j.first; phase = first_phase x.work (reads_of n x) }) (sym same)
-  where
-    made : Phase → Place
-    made q = record { sweep = s; order = k; i = o.i.first; j = o.j.first; phase = q }

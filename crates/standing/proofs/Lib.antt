@@ -3,4 +3,3 @@ pub mod FirstPlaces
 pub mod NextPlaces
 pub mod PhaseSteps
 pub mod PlaceTests
-pub mod ReadCounts

@@ -9,8 +9,6 @@ use Rattle.compiler.specs.Spans.{Seat}
 use Rattle.compiler.specs.Deeds.{Deed}
 use Rattle.standing.specs.declared.place.Phase.{Phase}
 use Rattle.standing.specs.declared.place.Place.{Place}
-use Rattle.standing.specs.declared.place.Standing.{Standing}
-use Rattle.standing.specs.declared.place.Standing.TheVariants.{Before}
 use Rattle.standing.specs.Left.{cell_deeds, cell_in, row_deeds, order_at, statement_of, sweeps_left, todo_from, todo_of, in_program, deed_at}
 use Rattle.standing.specs.Moves.{Leaves, StandsIn, after_cell, cell_after, phase_after, reads_of}
 use Rattle.standing.proofs.CellLists.{counting_more, counting_none}
@@ -24,7 +22,7 @@ module _ (n : Sheet) (orders : List Order) (at : Place) where
   cell_over i j = cell_place at.sweep at.order (statement_of n (order_at orders at.order)) (order_at orders at.order) i j
 
   -- with j one on, the rest of the row is left
-  pub next_cell : at.j + 1 < (order_at orders at.order).j.end → Leaves n orders (Before (cell_over at.i (at.j + 1))) (λ b. after_cell b n orders at)
+  pub next_cell : at.j + 1 < (order_at orders at.order).j.end → Leaves n orders (Some (cell_over at.i (at.j + 1))) (λ b. after_cell b n orders at)
   next_cell more b =
       ap (λ l. l ++ sweeps_left b n orders at.sweep (at.order + 1)) (cell_left b st o at.sweep at.order at.i (at.j + 1)
       ∙ sym (append_assoc (cell_deeds b st o at.i (at.j + 1)) (flat_map (cell_deeds b st o at.i) (range_with_len (at.j + 1 + 1) (o.j.end - (at.j + 1 + 1)))) rows)
@@ -41,7 +39,7 @@ module _ (n : Sheet) (orders : List Order) (at : Place) where
 
   -- at the end of a row, with i one on, the rest of the order is left
   pub next_row : ltb (order_at orders at.order).j.first (order_at orders at.order).j.end ≡ true → (order_at orders at.order).j.end ≤ at.j + 1 → at.i + 1 < (order_at orders at.order).i.end
-      → Leaves n orders (Before (cell_over (at.i + 1) (order_at orders at.order).j.first)) (λ b. after_cell b n orders at)
+      → Leaves n orders (Some (cell_over (at.i + 1) (order_at orders at.order).j.first)) (λ b. after_cell b n orders at)
   next_row cells last more b =
       ap (λ l. l ++ sweeps_left b n orders at.sweep (at.order + 1)) (row_left b st o at.sweep at.order (at.i + 1) cells
       ∙ ap₂ (λ js is. flat_map (cell_deeds b st o at.i) js ++ flat_map (row_deeds b st o) is) (sym (counting_none (at.j + 1) o.j.end last)) (sym (counting_more (at.i + 1) o.i.end more)))
@@ -53,7 +51,7 @@ module _ (n : Sheet) (orders : List Order) (at : Place) where
       st = statement_of n (order_at orders at.order)
 
   -- at the end of the last row, the orders after it are left
-  pub next_order : (r : Standing) → (order_at orders at.order).j.end ≤ at.j + 1 → (order_at orders at.order).i.end ≤ at.i + 1
+  pub next_order : (r : Option Place) → (order_at orders at.order).j.end ≤ at.j + 1 → (order_at orders at.order).i.end ≤ at.i + 1
       → Leaves n orders r (λ b. sweeps_left b n orders at.sweep (at.order + 1)) → Leaves n orders r (λ b. after_cell b n orders at)
   next_order r last bottom left b =
       left b
@@ -67,7 +65,7 @@ module _ (n : Sheet) (orders : List Order) (at : Place) where
       st = statement_of n (order_at orders at.order)
 
   -- those cells are the program's
-  pub next_cell_in : in_program n orders at ≡ true → at.j + 1 < (order_at orders at.order).j.end → StandsIn n orders (Before (cell_over at.i (at.j + 1)))
+  pub next_cell_in : in_program n orders at ≡ true → at.j + 1 < (order_at orders at.order).j.end → StandsIn n orders (Some (cell_over at.i (at.j + 1)))
   next_cell_in h more =
       let p = placed n orders at h in
       from_placed n orders (cell_over at.i (at.j + 1)) (record {
@@ -80,7 +78,7 @@ module _ (n : Sheet) (orders : List Order) (at : Place) where
         goes = first_goes (order_at orders at.order).work (reads_of n (order_at orders at.order));
       })
 
-  pub next_row_in : in_program n orders at ≡ true → at.i + 1 < (order_at orders at.order).i.end → StandsIn n orders (Before (cell_over (at.i + 1) (order_at orders at.order).j.first))
+  pub next_row_in : in_program n orders at ≡ true → at.i + 1 < (order_at orders at.order).i.end → StandsIn n orders (Some (cell_over (at.i + 1) (order_at orders at.order).j.first))
   next_row_in h more =
       let p = placed n orders at h in
       from_placed n orders (cell_over (at.i + 1) (order_at orders at.order).j.first) (record {
@@ -95,7 +93,7 @@ module _ (n : Sheet) (orders : List Order) (at : Place) where
 
   -- the next cell of the order has what is left after the cell
   pub to_cell : in_program n orders at ≡ true → (p : Place) → cell_after (order_at orders at.order) (reads_of n (order_at orders at.order)) at ≡ Some p
-      → Leaves n orders (Before p) (λ b. after_cell b n orders at) × StandsIn n orders (Before p)
+      → Leaves n orders (Some p) (λ b. after_cell b n orders at) × StandsIn n orders (Some p)
   to_cell h p is = step (ltb (at.j + 1) o.j.end) (ltb (at.i + 1) o.i.end) refl refl is
     where
       o : Order
@@ -106,7 +104,7 @@ module _ (n : Sheet) (orders : List Order) (at : Place) where
 
       step : (t u : Bool) → ltb (at.j + 1) o.j.end ≡ t → ltb (at.i + 1) o.i.end ≡ u
           → cond t (Some (cell_over at.i (at.j + 1))) (cond u (Some (cell_over (at.i + 1) o.j.first)) None) ≡ Some p
-          → Leaves n orders (Before p) (λ b. after_cell b n orders at) × StandsIn n orders (Before p)
+          → Leaves n orders (Some p) (λ b. after_cell b n orders at) × StandsIn n orders (Some p)
       step true u e f s =
           let same : p ≡ cell_over at.i (at.j + 1) = cc in
           let more : at.j + 1 < o.j.end = ltb-true (at.j + 1) o.j.end e in
@@ -119,7 +117,7 @@ module _ (n : Sheet) (orders : List Order) (at : Place) where
       step false false e f s = let z : ◌≡◌ {A = ℕ} 0 1 = cc in absurd (omega arith)
 
   -- without a next cell, the orders after it are left
-  pub to_order : cell_after (order_at orders at.order) (reads_of n (order_at orders at.order)) at ≡ None → (r : Standing)
+  pub to_order : cell_after (order_at orders at.order) (reads_of n (order_at orders at.order)) at ≡ None → (r : Option Place)
       → Leaves n orders r (λ b. sweeps_left b n orders at.sweep (at.order + 1)) → Leaves n orders r (λ b. after_cell b n orders at)
   to_order is r left = step (ltb (at.j + 1) o.j.end) (ltb (at.i + 1) o.i.end) refl refl is
     where
@@ -135,7 +133,7 @@ module _ (n : Sheet) (orders : List Order) (at : Place) where
 
   -- the same cell at another phase
   abbrev pub phase_over : Phase → Place
-  phase_over q = record { sweep = at.sweep; order = at.order; i = at.i; j = at.j; phase = q }
+  phase_over q = record at { phase = q }
 
   -- a step, and what is left after it in its cell
   step_in_cell : in_program n orders at ≡ true → (b : Seat)
@@ -157,12 +155,12 @@ module _ (n : Sheet) (orders : List Order) (at : Place) where
   step_to_phase h q e b = rw e at (step_in_cell h b)
 
   -- the last step of a cell
-  pub step_to_cell : in_program n orders at ≡ true → phase_after at.phase (reads_of n (order_at orders at.order)) ≡ None → (r : Standing) → Leaves n orders r (λ b. after_cell b n orders at)
+  pub step_to_cell : in_program n orders at ≡ true → phase_after at.phase (reads_of n (order_at orders at.order)) ≡ None → (r : Option Place) → Leaves n orders r (λ b. after_cell b n orders at)
       → (b : Seat) → todo_from b n orders at ≡ deed_at b n orders at ∷ todo_of b n orders r
   step_to_cell h e r left b = let whole = rw e at (step_in_cell h b) in whole ∙ ap (λ l. deed_at b n orders at ∷ l) (sym (left b))
 
   -- the next phase is the program's too
-  pub phase_in : in_program n orders at ≡ true → (q : Phase) → phase_after at.phase (reads_of n (order_at orders at.order)) ≡ Some q → StandsIn n orders (Before (phase_over q))
+  pub phase_in : in_program n orders at ≡ true → (q : Phase) → phase_after at.phase (reads_of n (order_at orders at.order)) ≡ Some q → StandsIn n orders (Some (phase_over q))
   phase_in h q e =
       let p = placed n orders at h in
       let follows : Follows (order_at orders at.order).work (reads_of n (order_at orders at.order)) at.phase (Some q) = rw e at (phase_follows (order_at orders at.order).work (reads_of n (order_at orders at.order)) at.phase p.goes) in
@@ -176,11 +174,31 @@ module _ (n : Sheet) (orders : List Order) (at : Place) where
         goes = follows.1;
       })
 
-  -- the next phase and the next cell, by the order that was read
-  pub by_phase : (o : Order) (reads : ℕ) (r : Option Phase) → order_at orders at.order ≡ o → reads ≡ reads_of n o → r ≡ phase_after at.phase reads
-      → phase_after at.phase (reads_of n (order_at orders at.order)) ≡ r
-  by_phase o reads r same counted is = ap (phase_after at.phase) (ap (reads_of n) same ∙ sym counted) ∙ sym is
+  -- what holds of where a board stands after a place
+  pub record After (r : Option Place) : Type 0 where
+    pub step : (b : Seat) → todo_from b n orders at ≡ deed_at b n orders at ∷ todo_of b n orders r
+    pub there : StandsIn n orders r
 
-  pub by_order : (o : Order) (reads : ℕ) (r : Option Place) → order_at orders at.order ≡ o → reads ≡ reads_of n o → r ≡ cell_after o reads at
-      → cell_after (order_at orders at.order) (reads_of n (order_at orders at.order)) at ≡ r
-  by_order o reads r same counted is = ap (λ x. cell_after x (reads_of n x) at) same ∙ ap (λ m. cell_after o m at) (sym counted) ∙ sym is
+  -- by the order that was read and the count of its reads: after a step that is not the last of its cell, after the last step
+  -- of a cell that is not the last of its order, and after that of the last
+  module _ (inside : in_program n orders at ≡ true) (o : Order) (reads : ℕ) (same : order_at orders at.order ≡ o) (counted : reads ≡ reads_of n o) where
+    -- the reads and the order that the definitions name
+    own : reads_of n (order_at orders at.order) ≡ reads
+    own = ap (reads_of n) same ∙ sym counted
+
+    pub after_step : (q : Phase) → phase_after at.phase reads ≡ Some q → After (Some (phase_over q))
+    after_step q e =
+        let next = ap (phase_after at.phase) own ∙ e in
+        record { step = step_to_phase inside q next; there = phase_in inside q next }
+
+    pub after_cell_step : phase_after at.phase reads ≡ None → (p : Place) → cell_after o reads at ≡ Some p → After (Some p)
+    after_cell_step none p e =
+        let moved = to_cell inside p (ap₂ (λ x m. cell_after x m at) same own ∙ e) in
+        record { step = step_to_cell inside (ap (phase_after at.phase) own ∙ none) (Some p) moved.0; there = moved.1 }
+
+    pub after_order_step : phase_after at.phase reads ≡ None → cell_after o reads at ≡ None → (r : Option Place)
+        → Leaves n orders r (λ b. sweeps_left b n orders at.sweep (at.order + 1)) → StandsIn n orders r → After r
+    after_order_step none last r left there = record {
+      step = step_to_cell inside (ap (phase_after at.phase) own ∙ none) r (to_order (ap₂ (λ x m. cell_after x m at) same own ∙ last) r left);
+      there = there;
+    }

@@ -1,7 +1,9 @@
 -- The steps of one cell, phase by phase. Assumes nothing.
 use Rattle.std.proofs.Common.{◌≡◌, ℕ, zero, suc, ◌+◌, ◌<◌, Bool, true, false, cond, eqb, ltb, List, [], ◌∷◌, ◌++◌, map, length, drop, is_some, Some, None, Option, sym, refl, ap, ◌∙◌, arith}
+use Rattle.std.specs.List.{slice_get}
 use Rattle.std.specs.Option.{option_map}
-use Rattle.std.proofs.lemmas.List.{drop-map, drop_all, length-append, length-map}
+use Rattle.std.proofs.lemmas.Option.{slice_get_within, get_or_from_slice_get}
+use Rattle.std.proofs.lemmas.List.{drop-map, drop_all, drop_more, length-append, length-map}
 use Rattle.std.proofs.lemmas.Bool.{ltb-true, ltb-false, lt-ltb, le-ltb, eqb-true, eqb-false, ne_eqb, true≢false}
 use Rattle.std.proofs.lemmas.Bool.Decides.{nat_tests}
 use Rattle.nest.specs.Terms.{Said}
@@ -14,7 +16,7 @@ use Rattle.compiler.specs.Spans.{Seat}
 use Rattle.compiler.specs.Deeds.{Deed, deed_in, tasks_in}
 use Rattle.standing.specs.declared.place.Phase.{Phase}
 use Rattle.standing.specs.declared.place.Phase.TheVariants.{Single, Ships, Base, Adds, Store}
-use Rattle.standing.specs.Left.{item_at, task_in, phase_number, deed_for}
+use Rattle.standing.specs.Left.{task_in, phase_number, deed_for}
 use Rattle.standing.specs.Moves.{first_phase, phase_after, goes_with}
 
 -- a cell begins with its step 0, which goes with its work
@@ -29,7 +31,7 @@ first_goes Walk zero = refl
 first_goes Walk (suc n) = let e : eqb (suc n) 0 ≡ false = ne_eqb (suc n) 0 (λ h. omega arith) in rw e (lt-ltb 0 (suc n) (omega arith))
 
 -- an item is there where the index is below the length
-item_there : {X Y : Type 0} (f : X → Y) (xs : List X) (n : ℕ) → is_some (option_map f (item_at xs n)) ≡ ltb n (length xs)
+item_there : {X Y : Type 0} (f : X → Y) (xs : List X) (n : ℕ) → is_some (option_map f (slice_get xs n)) ≡ ltb n (length xs)
 item_there f [] n = sym (le-ltb n 0 (omega arith))
 item_there f (x ∷ xs) zero = sym (lt-ltb 0 (suc (length xs)) (omega arith))
 item_there f (x ∷ xs) (suc n) = let e : ltb (suc n) (suc (length xs)) ≡ ltb n (length xs) = grind (arith, nat_tests) in item_there f xs n ∙ sym e
@@ -48,24 +50,22 @@ task_there s Walk (Adds n) = item_there AddTask s.reads n
 task_there s Walk Store = refl
 
 -- the items of two lists in succession
-item_left : {X Y : Type 0} (f : X → Y) (xs : List X) (ys : List Y) (n : ℕ) → n < length xs → item_at (map f xs ++ ys) n ≡ option_map f (item_at xs n)
+item_left : {X Y : Type 0} (f : X → Y) (xs : List X) (ys : List Y) (n : ℕ) → n < length xs → slice_get (map f xs ++ ys) n ≡ option_map f (slice_get xs n)
 item_left f [] ys n h = absurd (omega arith)
 item_left f (x ∷ xs) ys zero h = refl
 item_left f (x ∷ xs) ys (suc n) h = item_left f xs ys n (omega arith)
 
-item_right : {X Y : Type 0} (f : X → Y) (xs : List X) (ys : List Y) (m n : ℕ) → m ≡ length xs + n → item_at (map f xs ++ ys) m ≡ item_at ys n
+item_right : {X Y : Type 0} (f : X → Y) (xs : List X) (ys : List Y) (m n : ℕ) → m ≡ length xs + n → slice_get (map f xs ++ ys) m ≡ slice_get ys n
 item_right f [] ys m n h = let e : m ≡ n = omega arith in rw e
 item_right f (x ∷ xs) ys zero n h = absurd (omega arith)
 item_right f (x ∷ xs) ys (suc m) n h = item_right f xs ys m n (omega arith)
 
 -- from an item on, a list is that item and what comes after it
-item_drop : {X : Type 0} (xs : List X) (n : ℕ) (x : X) → item_at xs n ≡ Some x → drop n xs ≡ x ∷ drop (n + 1) xs
-item_drop [] n x h = cc
-item_drop (y ∷ xs) zero x h = cc
-item_drop (y ∷ xs) (suc n) x h = let e : suc n + 1 ≡ suc (n + 1) = omega arith in rw e (item_drop xs n x h)
+item_drop : {X : Type 0} (xs : List X) (n : ℕ) (x : X) → slice_get xs n ≡ Some x → drop n xs ≡ x ∷ drop (n + 1) xs
+item_drop xs n x h = drop_more xs n x (slice_get_within xs n x h) ∙ ap (λ y. y ∷ drop (n + 1) xs) (get_or_from_slice_get xs n x x h)
 
 -- the task at a phase's number is the phase's own
-task_at : (s : Said) (w : Work) (p : Phase) → goes_with w (length s.reads) p ≡ true → item_at (tasks_in s w) (phase_number (length s.reads) p) ≡ task_in s w p
+task_at : (s : Said) (w : Work) (p : Phase) → goes_with w (length s.reads) p ≡ true → slice_get (tasks_in s w) (phase_number (length s.reads) p) ≡ task_in s w p
 task_at s (One t) Single h = refl
 task_at s (One t) (Ships n) h = cc
 task_at s (One t) Base h = cc
@@ -143,7 +143,7 @@ phase_step b s cell w p h =
     reads : ℕ
     reads = length s.reads
 
-    own : (t : Option Task) → is_some t ≡ true → item_at (tasks_in s w) (phase_number reads p) ≡ t
+    own : (t : Option Task) → is_some t ≡ true → slice_get (tasks_in s w) (phase_number reads p) ≡ t
         → map (deed_in b s cell) (drop (phase_number reads p) (tasks_in s w)) ≡ deed_for b s cell t ∷ map (deed_in b s cell) (drop (phase_number reads p + 1) (tasks_in s w))
     own None there e = absurd (true≢false (sym there))
     own (Some t) there e = ap (map (deed_in b s cell)) (item_drop (tasks_in s w) (phase_number reads p) t e)

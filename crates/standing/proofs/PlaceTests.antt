@@ -1,27 +1,12 @@
 -- The tests of a place, one by one. Assumes nothing.
-use Rattle.std.proofs.Common.{◌≡◌, ℕ, ◌<◌, ◌≤◌, Bool, true, ◌&&◌, ltb, List, length, is_some, sym, ap, ◌∙◌}
+use Rattle.std.proofs.Common.{◌≡◌, ◌<◌, ◌≤◌, true, List, length, sym, ◌∙◌}
 use Rattle.std.proofs.lemmas.Bool.{and_parts, and_from, lt-ltb, le-leb, ltb-true, leb-true}
-use Rattle.nest.specs.Terms.{Said, Sheet}
+use Rattle.nest.specs.Terms.{Sheet}
 use Rattle.compiler.specs.declared.order.Order.{Order}
 use Rattle.standing.specs.declared.place.Place.{Place}
-use Rattle.standing.specs.Left.{order_at, statement_of, in_span, in_order, in_program, task_in}
+use Rattle.standing.specs.Left.{order_at, statement_of, in_program}
 use Rattle.standing.specs.Moves.{goes_with, reads_of}
 use Rattle.standing.proofs.PhaseSteps.{task_there}
-
--- after the tests of both numbers, the phase decides
-pub phase_decides : (s : Said) (o : Order) (at : Place) (reads : ℕ) (r : Bool) → in_span o.i at.i ≡ true → in_span o.j at.j ≡ true
-    → reads ≡ length s.reads → r ≡ goes_with o.work reads at.phase → r ≡ in_order s o at
-phase_decides s o at reads r i-in j-in same e =
-    e ∙ ap (λ m. goes_with o.work m at.phase) same ∙ sym (task_there s o.work at.phase)
-    ∙ ap (λ t. t && is_some (task_in s o.work at.phase)) (sym (and_from (in_span o.i at.i) (in_span o.j at.j) i-in j-in))
-
--- after the tests of sweep and order, the order decides
-pub order_decides : (n : Sheet) (orders : List Order) (at : Place) (o : Order) (r : Bool) → at.sweep < n.sweeps → at.order < length orders → order_at orders at.order ≡ o
-    → r ≡ in_order (statement_of n o) o at → r ≡ in_program n orders at
-order_decides n orders at o r early there same e =
-    e ∙ ap (λ x. in_order (statement_of n x) x at) (sym same)
-    ∙ ap (λ t. t && in_order (statement_of n (order_at orders at.order)) (order_at orders at.order) at)
-    (sym (and_from (ltb at.sweep n.sweeps) (ltb at.order (length orders)) (lt-ltb at.sweep n.sweeps early) (lt-ltb at.order (length orders) there)))
 
 -- what a place of the program keeps
 pub record Placed (n : Sheet) (orders : List Order) (at : Place) : Type 0 where

@@ -1,5 +1,5 @@
 -- What a board still has to do from where it stands. Assumes nothing.
-use Rattle.std.specs.Prelude.{ℕ, zero, suc, ◌+◌, ◌-◌, Bool, true, ◌&&◌, List, [], ◌∷◌, ◌++◌, map, length, drop, is_some, Some, None, Option, nat_le, nat_lt, slice_index_or}
+use Rattle.std.specs.Prelude.{ℕ, ◌+◌, ◌-◌, Bool, true, ◌&&◌, List, [], ◌++◌, map, length, drop, is_some, Some, None, Option, nat_le, nat_lt, slice_get, slice_index_or}
 use Rattle.std.specs.List.{range_with_len, flat_map}
 use Rattle.std.specs.Option.{option_map}
 use Rattle.nest.specs.Terms.{Said, Sheet}
@@ -21,26 +21,15 @@ use Rattle.schedule.specs.Events.{again}
 use Rattle.standing.specs.declared.place.Phase.{Phase}
 use Rattle.standing.specs.declared.place.Phase.TheVariants.{Single, Ships, Base, Adds, Store}
 use Rattle.standing.specs.declared.place.Place.{Place}
-use Rattle.standing.specs.declared.place.Standing.{Standing}
-use Rattle.standing.specs.declared.place.Standing.TheVariants.{Before, End}
-
--- the item at an index, or none
-abbrev pub item_at : {X : Type 0} → List X → ℕ → Option X
-item_at [] n = None
-item_at (x ∷ xs) zero = Some x
-item_at (x ∷ xs) (suc n) = item_at xs n
 
 -- the task that a phase stands before in a cell of a statement; none where the phase does not go with the work
 abbrev pub task_in : Said → Work → Phase → Option Task
 task_in s (One t) Single = Some t
-task_in s (One t) (Ships n) = None
-task_in s (One t) Base = None
-task_in s (One t) (Adds n) = None
-task_in s (One t) Store = None
+task_in s (One t) _ = None
 task_in s Walk Single = None
-task_in s Walk (Ships n) = option_map ShipTask (item_at s.reads n)
+task_in s Walk (Ships n) = option_map ShipTask (slice_get s.reads n)
 task_in s Walk Base = Some BaseTask
-task_in s Walk (Adds n) = option_map AddTask (item_at s.reads n)
+task_in s Walk (Adds n) = option_map AddTask (slice_get s.reads n)
 task_in s Walk Store = Some StoreTask
 
 -- its number among the steps of the cell
@@ -97,9 +86,9 @@ abbrev pub todo_from : Seat → Sheet → List Order → Place → List Deed
 todo_from b n orders at =
     order_left b (statement_of n (order_at orders at.order)) (order_at orders at.order) at ++ sweeps_left b n orders at.sweep (at.order + 1)
 
-abbrev pub todo_of : Seat → Sheet → List Order → Standing → List Deed
-todo_of b n orders (Before at) = todo_from b n orders at
-todo_of b n orders End = []
+abbrev pub todo_of : Seat → Sheet → List Order → Option Place → List Deed
+todo_of b n orders (Some at) = todo_from b n orders at
+todo_of b n orders None = []
 
 -- a number is one of a span's
 abbrev pub in_span : Span → ℕ → Bool
@@ -124,9 +113,9 @@ abbrev pub in_maps : Seat → List Order → Place → Bool
 in_maps b orders at = has_rank b (order_at orders at.order).i.kind at.i && has_rank b (order_at orders at.order).j.kind at.j
 
 -- where a board stands is known to program and maps; the end always is
-abbrev pub known : Seat → Sheet → List Order → Standing → Bool
-known b n orders (Before at) = in_program n orders at && in_maps b orders at
-known b n orders End = true
+abbrev pub known : Seat → Sheet → List Order → Option Place → Bool
+known b n orders (Some at) = in_program n orders at && in_maps b orders at
+known b n orders None = true
 
 -- the step that comes next at a place, if its phase goes with the order's work
 abbrev pub deed_for : Seat → Said → Option Iteration → Option Task → Deed

@@ -10,17 +10,15 @@ use Rattle.compiler.specs.Deeds.{Deed}
 use Rattle.standing.specs.declared.place.Phase.{Phase}
 use Rattle.standing.specs.declared.place.Phase.TheVariants.{Single, Ships, Base, Adds, Store}
 use Rattle.standing.specs.declared.place.Place.{Place}
-use Rattle.standing.specs.declared.place.Standing.{Standing}
-use Rattle.standing.specs.declared.place.Standing.TheVariants.{Before, End}
 use Rattle.standing.specs.Left.{cell_deeds, row_deeds, deeds_of, order_at, statement_of, sweeps_left, todo_of, in_program}
 
 -- a standing is in the program: it is the end, or before a step that is there
-abbrev pub StandsIn : Sheet → List Order → Standing → Type 0
-StandsIn n orders (Before at) = in_program n orders at ≡ true
-StandsIn n orders End = Unit {0}
+abbrev pub StandsIn : Sheet → List Order → Option Place → Type 0
+StandsIn n orders (Some at) = in_program n orders at ≡ true
+StandsIn n orders None = Unit {0}
 
 -- what is left from a standing, for every board
-abbrev pub Leaves : Sheet → List Order → Standing → (Seat → List Deed) → Type 0
+abbrev pub Leaves : Sheet → List Order → Option Place → (Seat → List Deed) → Type 0
 Leaves n orders r left = (b : Seat) → todo_of b n orders r ≡ left b
 
 -- both spans of an order have a number
@@ -52,10 +50,7 @@ phase_after Store reads = None
 -- a phase goes with a work, for a statement with so many reads
 abbrev pub goes_with : Work → ℕ → Phase → Bool
 goes_with (One t) reads Single = true
-goes_with (One t) reads (Ships n) = false
-goes_with (One t) reads Base = false
-goes_with (One t) reads (Adds n) = false
-goes_with (One t) reads Store = false
+goes_with (One t) reads _ = false
 goes_with Walk reads Single = false
 goes_with Walk reads (Ships n) = nat_lt n reads
 goes_with Walk reads Base = true
@@ -80,9 +75,9 @@ place_in n orders s k = record {
 abbrev pub cell_after : Order → ℕ → Place → Option Place
 cell_after o reads at =
     cond (nat_lt (at.j + 1) o.j.end)
-    (Some (record { sweep = at.sweep; order = at.order; i = at.i; j = at.j + 1; phase = first_phase o.work reads }))
+    (Some (record at { j = at.j + 1; phase = first_phase o.work reads }))
     (cond (nat_lt (at.i + 1) o.i.end)
-    (Some (record { sweep = at.sweep; order = at.order; i = at.i + 1; j = o.j.first; phase = first_phase o.work reads }))
+    (Some (record at { i = at.i + 1; j = o.j.first; phase = first_phase o.work reads }))
     None)
 
 -- the steps after a cell of an order: the rest of the row, of the order, of all sweeps
