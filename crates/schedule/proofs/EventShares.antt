@@ -1,5 +1,5 @@
 -- The share of a board in the events of a nest is what it has to do, steps that do nothing aside. Assumes nothing.
-use Rattle.std.proofs.Common.{◌≡◌, ℕ, ◌+◌, Bool, true, false, cond, eqb, List, [], ◌∷◌, ◌++◌, map, filter, Option, sym, refl, ap, ◌∙◌, ap₂, inl, inr, ⊎_elim}
+use Rattle.std.proofs.Common.{◌≡◌, ℕ, ◌+◌, Bool, true, false, cond, eqb, List, [], ◌∷◌, ◌++◌, map, filter, None, Option, sym, refl, ap, ◌∙◌, ap₂, inl, inr, ⊎_elim}
 use Rattle.std.specs.List.{flat_map}
 use Rattle.std.proofs.lemmas.List.Elements.{filter-append}
 use Rattle.std.proofs.lemmas.List.{append-nil, map-append}
@@ -22,7 +22,6 @@ use Rattle.compiler.specs.Deeds.{Deed, rests, works, working, deed_of, deed_in, 
 use Rattle.compiler.specs.Laws.{AllSound}
 use Rattle.compiler.specs.declared.order.Task.{Task}
 use Rattle.compiler.specs.declared.order.Task.TheVariants.{Ship, Base, Add, Store}
-use Rattle.compiler.specs.declared.span.SpanKind.TheVariants.{Plain}
 use Rattle.compiler.proofs.FilteredLists.{joined_joined, joined_like, joined_nothing, present_all}
 use Rattle.compiler.proofs.CellParts.{present_cells, joined_present}
 use Rattle.compiler.proofs.OrderLaws.{work_covered}
@@ -136,7 +135,7 @@ idle_cell (t ∷ tasks) = idle_cell tasks
 
 walk_cells : (b : Seat) (k : ℕ) (s : Said) → present (cells_of b s (walk_order b k s)) ≡ iterations s.i s.j
 walk_cells b k s =
-    present_cells (span_values b s.j (span_of b Plain s.j)) (span_values b s.i (span_of b Plain s.i))
+    present_cells (span_values b s.j (span_of b None s.j)) (span_values b s.i (span_of b None s.i))
     ∙ ap₂ (λ js is. flat_map (row_of js) is) (present_all (values_of s.j)) (present_all (values_of s.i))
 
 walk_work : (b : Seat) (k : ℕ) (s : Said) → working (order_deeds b s (walk_order b k s)) ≡ flat_map (λ e. working (map (λ t. deed_of b s t e) (tasks_of s))) (iterations s.i s.j)

@@ -28,16 +28,16 @@ counting_none k end h = let e : end - k ≡ 0 = omega arith in rw e
 pub order_rows : (b : Seat) (s : Said) (o : Order) → order_deeds b s o ≡ flat_map (row_deeds b s o) (numbers_of o.i)
 order_rows b s o =
     joined_joined deeds (λ i. map (cell_of i) (span_values b s.j o.j)) (span_values b s.i o.i)
-    ∙ flat_map-map (λ i. flat_map deeds (map (cell_of i) (span_values b s.j o.j))) (value_in b s.i o.i.kind) (numbers_of o.i)
+    ∙ flat_map-map (λ i. flat_map deeds (map (cell_of i) (span_values b s.j o.j))) (value_in b s.i o.i.owning) (numbers_of o.i)
     ∙ joined_like _ (row_deeds b s o) (numbers_of o.i) row
   where
     deeds : Option Iteration → List Deed
     deeds cell = map (deed_in b s cell) (tasks_in s o.work)
 
-    row : (i : ℕ) → flat_map deeds (map (cell_of (value_in b s.i o.i.kind i)) (span_values b s.j o.j)) ≡ row_deeds b s o i
+    row : (i : ℕ) → flat_map deeds (map (cell_of (value_in b s.i o.i.owning i)) (span_values b s.j o.j)) ≡ row_deeds b s o i
     row i =
-        flat_map-map deeds (cell_of (value_in b s.i o.i.kind i)) (span_values b s.j o.j)
-        ∙ flat_map-map (λ j. deeds (cell_of (value_in b s.i o.i.kind i) j)) (value_in b s.j o.j.kind) (numbers_of o.j)
+        flat_map-map deeds (cell_of (value_in b s.i o.i.owning i)) (span_values b s.j o.j)
+        ∙ flat_map-map (λ j. deeds (cell_of (value_in b s.i o.i.owning i) j)) (value_in b s.j o.j.owning) (numbers_of o.j)
 
 -- an order without cells has nothing to do
 pub no_cells : (b : Seat) (s : Said) (o : Order) → has_cells o ≡ false → order_deeds b s o ≡ []

@@ -11,8 +11,7 @@ use Rattle.compiler.specs.declared.order.Task.TheVariants.{Ship as ShipTask, Bas
 use Rattle.compiler.specs.declared.order.Work.{Work}
 use Rattle.compiler.specs.declared.order.Work.TheVariants.{One, Walk}
 use Rattle.compiler.specs.declared.span.Span.{Span}
-use Rattle.compiler.specs.declared.span.SpanKind.{SpanKind}
-use Rattle.compiler.specs.declared.span.SpanKind.TheVariants.{Plain, Owned}
+use Rattle.compiler.specs.declared.span.Owning.{Owning}
 use Rattle.compiler.specs.Spans.{Seat, deal_for, self_for, numbers_of, value_in}
 use Rattle.compiler.specs.Cells.{cell_of}
 use Rattle.compiler.specs.Deeds.{Deed, deed_in, tasks_in, order_deeds}
@@ -42,7 +41,7 @@ phase_number reads Store = reads + 1 + reads
 
 -- the iteration at two numbers of an order's spans; without one the cell is idle
 abbrev pub cell_in : Seat → Said → Order → ℕ → ℕ → Option Iteration
-cell_in b s o i j = cell_of (value_in b s.i o.i.kind i) (value_in b s.j o.j.kind j)
+cell_in b s o i j = cell_of (value_in b s.i o.i.owning i) (value_in b s.j o.j.owning j)
 
 -- the steps of a cell, and of all cells with one i
 abbrev pub cell_deeds : Seat → Said → Order → ℕ → ℕ → List Deed
@@ -60,8 +59,8 @@ abbrev pub no_order : Order
 no_order = record {
   statement = 0;
   work = One BaseTask;
-  i = record { kind = Plain; first = 0; end = 0 };
-  j = record { kind = Plain; first = 0; end = 0 };
+  i = record { owning = None; first = 0; end = 0 };
+  j = record { owning = None; first = 0; end = 0 };
 }
 
 abbrev pub order_at : List Order → ℕ → Order
@@ -95,9 +94,9 @@ abbrev pub in_span : Span → ℕ → Bool
 in_span s n = nat_le s.first n && nat_lt n s.end
 
 -- the maps have the rank at a number of an owned span
-abbrev pub has_rank : Seat → SpanKind → ℕ → Bool
-has_rank b Plain n = true
-has_rank b (Owned o) n = is_some (position_of (deal_for b o) (self_for b o) n)
+abbrev pub has_rank : Seat → Option Owning → ℕ → Bool
+has_rank b None n = true
+has_rank b (Some o) n = is_some (position_of (deal_for b o) (self_for b o) n)
 
 -- a place is one of the program's: its sweep and order are there, its numbers are of the order's spans, its phase goes with
 -- the order's work
@@ -110,7 +109,7 @@ in_program n orders at =
 
 -- and the maps have its ranks
 abbrev pub in_maps : Seat → List Order → Place → Bool
-in_maps b orders at = has_rank b (order_at orders at.order).i.kind at.i && has_rank b (order_at orders at.order).j.kind at.j
+in_maps b orders at = has_rank b (order_at orders at.order).i.owning at.i && has_rank b (order_at orders at.order).j.owning at.j
 
 -- where a board stands is known to program and maps; the end always is
 abbrev pub known : Seat → Sheet → List Order → Option Place → Bool
