@@ -4,4 +4,4 @@ use Rattle.client_map.specs.declared.front.FrontLoaded.{FrontLoaded}
 use Rattle.client_map.specs.Rule.{front_deal}
 
 abbrev pub loaded_deal : FrontLoaded → Deal
-loaded_deal m = front_deal m.boards m.size m.front
+loaded_deal m = front_deal m.numbers.boards m.numbers.length m.front

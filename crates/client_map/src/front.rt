@@ -1,5 +1,6 @@
 ghost use Rattle.std.specs.Prelude.{◌≤◌};
-ghost use Rattle.owner_map.specs.Rules.{Sizes};
+
+use owner_map::Numbers;
 
 pub mod answers;
 pub mod loading;
@@ -7,9 +8,7 @@ pub mod loading;
 /// Board 0 owns the first `front` positions; the others are dealt one by one to all boards in turn.
 #[derive(Clone, Copy)]
 pub struct FrontLoaded {
-    boards: usize,
-    size: usize,
+    numbers: Numbers,
     front: usize,
-    ghost sizes: { Sizes boards size },
-    ghost part: { front ≤ size },
+    ghost part: { front ≤ numbers.length },
 }

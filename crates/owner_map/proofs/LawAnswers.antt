@@ -1,9 +1,10 @@
 -- What a map answers to questions that rest on its own answers.
-use Rattle.std.proofs.Common.{◌≡◌, ℕ, ◌<◌, ◌==◌, arith, ltb, Some, None, Option, Result, sym, ap, ◌∙◌, subst, ap₂}
+use Rattle.std.proofs.Common.{◌≡◌, ℕ, ◌<◌, ◌==◌, arith, ltb, Some, None, Option, MatchOption, Ok, Err, Result, sym, ap, ◌∙◌, subst, ap₂}
 use Rattle.std.proofs.lemmas.Bool.Decides.{nat_tests}
 use Rattle.std.proofs.lemmas.Bool.{lt-ltb, le-ltb, cond-true, cond-false}
+use Rattle.std.specs.Option.{option_transpose}
 use Rattle.owner_map.specs.declared.refusal.Refusal.{Refusal}
-use Rattle.owner_map.specs.Answer.{Given, Found}
+use Rattle.owner_map.specs.Answer.{Given, Found, Placed}
 use Rattle.owner_map.specs.Laws.{place_again}
 use Rattle.owner_map.specs.Meaning.{Deal, Sound, Position, Board, owner, rank, place, position, share}
 use Rattle.owner_map.proofs.Answering.{given_like}
@@ -28,21 +29,20 @@ module _ (d : Deal) where
       let board : Board d o = subst (λ b. b < d.boards) (sym o_is) (sound.4 x on) in
       given_like (Board d o) (Position d x) (λ p. p ≡ position d o k) (λ p. p ≡ Some x) r found (λ _. on) (λ _. board) (λ p e. e ∙ q)
 
-  module _ (b r : ℕ) (p : Option ℕ) (answered : p ≡ position d b r) where
-    -- A position that the map answers with is one of the deal.
-    pub position_on : (x : ℕ) → p ≡ Some x → Position d x
-    position_on x is = (position_undone d b r x (sym answered ∙ is)).0
+  -- The place of the position of board b at rank r.
+  pub placed_again : (b r : ℕ) (o : Option ℕ) (m : Option (Result (ℕ × ℕ) Refusal)) → Board d b × (o ≡ position d b r) → MatchOption o (m ≡ None) (λ x. (p : Result (ℕ × ℕ) Refusal) × Placed d x p × (m ≡ Some p)) → Given (Board d b) (λ p. p ≡ place_again d b r) (option_transpose m)
+  placed_again b r None m on e =
+      rw e (on.0, sym (cond-false (ltb r (share d b)) _ _ (le-ltb r (share d b) (rank_missed d b r (sym on.1)))))
+  placed_again b r (Some x) m on found = rw found.2 (answer found.0 found.1)
+    where
+      undone : Position d x × (place d x ≡ (b, r))
+      undone = position_undone d b r x (sym on.1)
 
-    -- The place of the position of board b at rank r.
-    pub place_some : (x : ℕ) (q : ℕ × ℕ) → p ≡ Some x → q.0 ≡ owner d x → q.1 ≡ rank d x → Some q ≡ place_again d b r
-    place_some x q is o_is k-is =
-        let found : position d b r ≡ Some x = sym answered ∙ is in
-        let at : q ≡ place d x = λ i. (o_is i, k-is i) in
-        let e : q ≡ (b, r) = at ∙ (position_undone d b r x found).1 in
-        ap {B = Option (ℕ × ℕ)} Some e ∙ sym (cond-true (ltb r (share d b)) _ _ (lt-ltb r (share d b) (rank_reached d b r x found)))
-
-    pub place_none : p ≡ None → None ≡ place_again d b r
-    place_none is = sym (cond-false (ltb r (share d b)) _ _ (le-ltb r (share d b) (rank_missed d b r (sym answered ∙ is))))
+      answer : (p : Result (ℕ × ℕ) Refusal) → Placed d x p → Given (Board d b) (λ p. p ≡ place_again d b r) (option_transpose (Some p))
+      answer (Ok q) at =
+          let e : q ≡ (b, r) = at.1 ∙ undone.1 in
+          (on.0, ap {B = Option (ℕ × ℕ)} Some e ∙ sym (cond-true (ltb r (share d b)) _ _ (lt-ltb r (share d b) (rank_reached d b r x (sym on.1)))))
+      answer (Err e) refused = absurd (refused.0 undone.0)
 
   -- Positions with one owner are the same exactly if their ranks are.
   pub same_by_rank : (x y : ℕ) → Position d x → Position d y → owner d x ≡ owner d y → rank d x ≡ rank d y → x ≡ y

@@ -5,4 +5,4 @@ use Rattle.owner_map.specs.Meaning.{Deal}
 use Rattle.owner_map.specs.Rules.{deal_of}
 
 abbrev pub runs_deal : BlockCyclic → Deal
-runs_deal m = deal_of (CyclicBy m.width) m.boards m.size
+runs_deal m = deal_of (CyclicBy m.width) m.numbers.boards m.numbers.length

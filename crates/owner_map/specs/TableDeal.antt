@@ -5,4 +5,4 @@ use Rattle.owner_map.specs.Meaning.{Deal}
 use Rattle.owner_map.specs.Listed.{listed}
 
 abbrev pub table_deal : OwnerTable → Deal
-table_deal m = listed m.boards (take m.size m.row)
+table_deal m = listed m.numbers.boards (take m.numbers.length m.row)

@@ -4,10 +4,11 @@ ghost use Rattle.owner_map.specs.Answer.{Given};
 ghost use Rattle.owner_map.specs.Laws.{PlaceUndone, PositionUndone, place_again, RanksWithoutGap, CountsAddUp, PlaceDetermines, CountsGrow, PositionsRise};
 ghost use Rattle.owner_map.specs.Meaning.{Position, Board, Bound, share, below};
 
-use super::questions::OwnerMap;
-use super::refusal::Refusal;
+use crate::questions::OwnerMap;
+use crate::refusal::Refusal;
 
 /// The position at the place of `x`, which is `x` again.
+#[tactic(auto, using(crate::specs::Deals::place_undone))]
 pub fn position_of_place<M: OwnerMap>(map: &M, x: usize) -> Result<Option<usize>, Refusal>
     ensures answer { Given (Position (M.meaning map.now) x) (λ p. p ≡ Some x) result }
     ensures law { PlaceUndone (M.meaning map.now) }
@@ -26,10 +27,8 @@ pub fn place_of_position<M: OwnerMap>(
     ensures answer { Given (Board (M.meaning map.now) board) (λ p. p ≡ place_again (M.meaning map.now) board rank) result }
     ensures law { PositionUndone (M.meaning map.now) }
 {
-    match map.position(board, rank)? {
-        Some(x) => Ok(Some(map.place(x)?)),
-        None => Ok(None),
-    }
+    let position = map.position(board, rank)?;
+    position.map(|x| map.place(x)).transpose()
 }
 
 /// How many positions `board` owns in all. Its ranks are the numbers below that.
@@ -41,16 +40,18 @@ pub fn owned_count<M: OwnerMap>(map: &M, board: usize) -> Result<usize, Refusal>
 }
 
 /// Whether `x` and `y` have one owner and one rank, which only a position and itself have.
+#[tactic(auto, using(crate::specs::Deals::place_determines))]
 pub fn same_place<M: OwnerMap>(map: &M, x: usize, y: usize) -> Result<bool, Refusal>
     ensures answer { Given (Position (M.meaning map.now) x × Position (M.meaning map.now) y) (λ same. same ≡ (x == y)) result }
     ensures law { PlaceDetermines (M.meaning map.now) }
 {
-    let (owner, rank) = map.place(x)?;
-    let (other_owner, other_rank) = map.place(y)?;
-    Ok(owner == other_owner && rank == other_rank)
+    let place = map.place(x)?;
+    let other = map.place(y)?;
+    Ok(place == other)
 }
 
 /// How many positions below `bound` any board owns: all of them.
+#[tactic(auto, using(crate::specs::Deals::counts_add_up))]
 pub fn counted_by_all<M: OwnerMap>(map: &M, bound: usize) -> Result<usize, Refusal>
     ensures answer { Given (Bound (M.meaning map.now) bound) (λ c. c ≡ bound - 1) result }
     ensures law { CountsAddUp (M.meaning map.now) }
@@ -63,6 +64,7 @@ pub fn counted_by_all<M: OwnerMap>(map: &M, bound: usize) -> Result<usize, Refus
 }
 
 /// How many positions from `low` up to and without `high` `board` owns. Their ranks follow one another.
+#[tactic(auto, using(crate::specs::Deals::counts_grow, crate::specs::Deals::positions_rise))]
 pub fn owned_between<M: OwnerMap>(
     map: &M,
     board: usize,

@@ -3,6 +3,7 @@
 
 mod laws;
 mod makes;
+mod numbers;
 mod questions;
 mod refusal;
 mod runs;
@@ -13,6 +14,7 @@ pub use laws::{
     counted_by_all, owned_between, owned_count, place_of_position, position_of_place, same_place,
 };
 pub use makes::{MOST_BOARDS, MOST_POSITIONS, Make};
+pub use numbers::Numbers;
 pub use questions::OwnerMap;
 pub use refusal::Refusal;
 pub use runs::BlockCyclic;

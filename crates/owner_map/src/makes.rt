@@ -2,7 +2,8 @@ ghost use Rattle.std.specs.Prelude.{◌≡◌, ◌≤◌, IfOk};
 ghost use Rattle.owner_map.specs.Answer.{Given};
 ghost use Rattle.owner_map.specs.Rules.{Makeable, width_of};
 
-use super::refusal::Refusal;
+use crate::numbers::Numbers;
+use crate::refusal::Refusal;
 
 /// The rules by which positions can be dealt to boards.
 #[derive(Clone, Copy, PartialEq, Eq, Debug)]
@@ -28,19 +29,13 @@ impl Make {
         ensures width { Given (Makeable self boards length) (λ k. k ≡ width_of self boards length) result }
         ensures fits { IfOk result (λ k. (1 ≤ k) × (k ≤ 32)) }
     {
-        if boards < 1 || boards > MOST_BOARDS || length < 1 || length > MOST_POSITIONS {
-            return Err(Refusal::OutsideNumbers);
-        }
+        Numbers::new(boards, length)?;
         match self {
             Make::One => Ok(length),
-            Make::Block => Ok((length + (boards - 1)) / boards),
+            Make::Block => Ok(length.div_ceil(boards)),
             Make::Cyclic => Ok(1),
-            Make::CyclicBy(width) => {
-                if width < 1 || width > MOST_POSITIONS {
-                    return Err(Refusal::OutsideNumbers);
-                }
-                Ok(width)
-            }
+            Make::CyclicBy(width @ 1..=MOST_POSITIONS) => Ok(width),
+            Make::CyclicBy(_) => Err(Refusal::OutsideNumbers),
         }
     }
 }

@@ -2,7 +2,7 @@ ghost use Rattle.std.specs.Prelude.{◌≡◌};
 ghost use Rattle.owner_map.specs.Meaning.{Deal, Sound, extent};
 ghost use Rattle.owner_map.specs.Answer.{Placed, Found, Counted};
 
-use super::refusal::Refusal;
+use crate::refusal::Refusal;
 
 /// What everything above a map may ask of it. A question changes nothing, and one outside its numbers
 /// is refused.

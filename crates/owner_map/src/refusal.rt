@@ -5,7 +5,7 @@ ghost use Rattle.owner_map.specs.Answer.{number};
 #[derive(Clone, Copy, PartialEq, Eq, Debug)]
 pub enum Refusal {
     /// A number of the question or of the making lies outside its range.
-    OutsideNumbers,
+    OutsideNumbers = 13,
 }
 
 impl Refusal {
@@ -13,8 +13,6 @@ impl Refusal {
     pub fn number(self) -> u8
         ensures { result ≡ number self }
     {
-        match self {
-            Refusal::OutsideNumbers => 13,
-        }
+        self as u8
     }
 }

@@ -1,8 +1,9 @@
-ghost use Rattle.std.specs.Prelude.{◌≡◌, ◌≤◌, length, take};
+ghost use Rattle.std.specs.Prelude.{◌≡◌, length, take};
 ghost use Rattle.owner_map.specs.Meaning.{Sound};
 ghost use Rattle.owner_map.specs.Listed.{listed};
 
-use super::makes::MOST_POSITIONS;
+use crate::makes::MOST_POSITIONS;
+use crate::numbers::Numbers;
 
 pub mod filling;
 pub mod lookup;
@@ -10,10 +11,8 @@ pub mod lookup;
 /// A map that a client writes out: the owner of each position in turn.
 #[derive(Clone, Copy)]
 pub struct OwnerTable {
-    boards: usize,
-    size: usize,
+    numbers: Numbers,
     row: [usize; MOST_POSITIONS],
     ghost room: { length row ≡ 32 },
-    ghost fits: { size ≤ 32 },
-    ghost sound: { Sound (listed boards (take size row)) },
+    ghost sound: { Sound (listed numbers.boards (take numbers.length row)) },
 }

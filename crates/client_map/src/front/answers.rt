@@ -17,54 +17,45 @@ impl FrontLoaded {
 impl OwnerMap for FrontLoaded {
     ghost meaning = { loaded_deal };
 
-    ghost sound = { λ m. sound_front m.boards m.size m.front m.sizes.0 m.sizes.1 m.sizes.2 m.sizes.3 };
+    ghost sound = { λ m. let within = m.numbers.within in sound_front m.numbers.boards m.numbers.length m.front within.0 within.1 within.2 within.3 };
 
     fn boards(&self) -> usize {
-        self.boards
+        self.numbers.boards
     }
 
     fn length(&self) -> usize {
-        self.size
+        self.numbers.length
     }
 
     fn place(&self, x: usize) -> Result<(usize, usize), Refusal> {
-        if x < 1 || x > self.size {
-            return Err(Refusal::OutsideNumbers);
+        let before = self.numbers.before_position(x)?;
+        if before < self.front {
+            return Ok((0, before));
         }
-        if x <= self.front {
-            return Ok((0, x - 1));
-        }
-        let dealt = x - 1 - self.front;
-        let owner = dealt % self.boards;
-        Ok((owner, self.front_of(owner) + dealt / self.boards))
+        let dealt = before - self.front;
+        let owner = dealt % self.numbers.boards;
+        Ok((owner, self.front_of(owner) + dealt / self.numbers.boards))
     }
 
     fn position(&self, board: usize, rank: usize) -> Result<Option<usize>, Refusal> {
-        if board >= self.boards {
-            return Err(Refusal::OutsideNumbers);
-        }
+        self.numbers.check_board(board)?;
         let front = self.front_of(board);
         if rank < front {
             return Ok(Some(rank + 1));
         }
-        if rank >= self.size {
+        if rank >= self.numbers.length {
             return Ok(None);
         }
-        let before = self.front + (rank - front) * self.boards + board;
-        if before < self.size {
-            Ok(Some(before + 1))
-        } else {
-            Ok(None)
-        }
+        let before = self.front + (rank - front) * self.numbers.boards + board;
+        Ok((before < self.numbers.length).then_some(before + 1))
     }
 
     fn count_below(&self, board: usize, bound: usize) -> Result<usize, Refusal> {
-        if board >= self.boards || bound < 1 || bound > self.size + 1 {
-            return Err(Refusal::OutsideNumbers);
-        }
-        let before = bound - 1;
+        self.numbers.check_board(board)?;
+        let before = self.numbers.below_bound(bound)?;
         let in_front = before.min(self.front_of(board));
         let dealt = before.saturating_sub(self.front);
-        Ok(in_front + (dealt + (self.boards - 1 - board)) / self.boards)
+        let boards = self.numbers.boards;
+        Ok(in_front + (dealt + (boards - 1 - board)) / boards)
     }
 }

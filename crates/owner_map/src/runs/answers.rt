@@ -2,64 +2,53 @@ ghost use Rattle.std.specs.Prelude.{◌≡◌, ◌*◌, ◌≤◌};
 ghost use Rattle.owner_map.specs.Runs.{runs_deal};
 ghost use Rattle.owner_map.specs.BlockCyclicDeals.{sound_runs};
 
-use super::super::questions::OwnerMap;
-use super::super::refusal::Refusal;
 use super::BlockCyclic;
+use crate::questions::OwnerMap;
+use crate::refusal::Refusal;
 
 impl BlockCyclic {
     /// The number of positions in one round over all boards.
     fn round(&self) -> usize
-        ensures product { result ≡ self.now.boards * self.now.width }
+        ensures product { result ≡ self.now.numbers.boards * self.now.width }
         ensures small { result ≤ 256 }
         ensures some { 1 ≤ result }
     {
-        self.width * self.boards
+        self.width * self.numbers.boards
     }
 }
 
 impl OwnerMap for BlockCyclic {
     ghost meaning = { runs_deal };
 
-    ghost sound = { λ m. sound_runs m.width m.boards m.size m.wide m.sizes.0 m.sizes.1 m.sizes.2 m.sizes.3 };
+    ghost sound = { λ m. let within = m.numbers.within in sound_runs m.width m.numbers.boards m.numbers.length m.wide within.0 within.1 within.2 within.3 };
 
     fn boards(&self) -> usize {
-        self.boards
+        self.numbers.boards
     }
 
     fn length(&self) -> usize {
-        self.size
+        self.numbers.length
     }
 
     fn place(&self, x: usize) -> Result<(usize, usize), Refusal> {
-        if x < 1 || x > self.size {
-            return Err(Refusal::OutsideNumbers);
-        }
-        let before = x - 1;
-        let owner = before / self.width % self.boards;
+        let before = self.numbers.before_position(x)?;
+        let owner = before / self.width % self.numbers.boards;
         let rank = before / self.round() * self.width + before % self.width;
         Ok((owner, rank))
     }
 
     fn position(&self, board: usize, rank: usize) -> Result<Option<usize>, Refusal> {
-        if board >= self.boards {
-            return Err(Refusal::OutsideNumbers);
-        }
-        if rank >= self.size {
+        self.numbers.check_board(board)?;
+        if rank >= self.numbers.length {
             return Ok(None);
         }
         let before = rank / self.width * self.round() + (board * self.width + rank % self.width);
-        if before < self.size {
-            Ok(Some(before + 1))
-        } else {
-            Ok(None)
-        }
+        Ok((before < self.numbers.length).then_some(before + 1))
     }
 
     fn count_below(&self, board: usize, bound: usize) -> Result<usize, Refusal> {
-        if board >= self.boards || bound < 1 || bound > self.size + 1 {
-            return Err(Refusal::OutsideNumbers);
-        }
-        let before = bound - 1;
+        self.numbers.check_board(board)?;
+        let before = self.numbers.below_bound(bound)?;
         let round = self.round();
         let begun = (before % round).saturating_sub(board * self.width);
         Ok(before / round * self.width + begun.min(self.width))

@@ -4,9 +4,10 @@ ghost use Rattle.owner_map.specs.MakeLaws.{MakesAgree};
 ghost use Rattle.owner_map.specs.Rules.{Sizes, Makeable, deal_of};
 ghost use Rattle.owner_map.specs.Runs.{runs_deal};
 
-use super::super::makes::Make;
-use super::super::refusal::Refusal;
 use super::BlockCyclic;
+use crate::makes::Make;
+use crate::numbers::Numbers;
+use crate::refusal::Refusal;
 
 /// The map that deals `length` positions over `boards` boards as `make` says.
 pub fn deal_out(make: Make, boards: usize, length: usize) -> Result<BlockCyclic, Refusal>
@@ -14,9 +15,6 @@ pub fn deal_out(make: Make, boards: usize, length: usize) -> Result<BlockCyclic,
     ensures agree { Sizes boards length → MakesAgree boards length }
 {
     let width = make.width(boards, length)?;
-    Ok(BlockCyclic {
-        boards,
-        size: length,
-        width,
-    })
+    let numbers = Numbers { boards, length };
+    Ok(BlockCyclic { numbers, width })
 }

@@ -2,38 +2,9 @@ ghost use Rattle.std.specs.Prelude.{◌≡◌};
 ghost use Rattle.owner_map.specs.Meaning.{tally, seek};
 ghost use Rattle.owner_map.specs.TableDeal.{table_deal};
 
-use super::super::questions::OwnerMap;
-use super::super::refusal::Refusal;
 use super::OwnerTable;
-
-/// How often `board` stands in a row of owners.
-fn occurrences(row: &[usize], board: usize) -> usize
-    ensures { result ≡ tally board row.now }
-{
-    let mut seen = 0;
-    for owner in row {
-        if *owner == board {
-            seen += 1;
-        }
-    }
-    seen
-}
-
-/// The position, from 1, at which `board` stands in a row of owners after `rank` earlier ones.
-fn find(row: &[usize], board: usize, rank: usize) -> Option<usize>
-    ensures { result ≡ seek 1 board rank row.now }
-{
-    let mut seen = 0;
-    for (i, owner) in row.iter().enumerate() {
-        if *owner == board {
-            if seen == rank {
-                return Some(i + 1);
-            }
-            seen += 1;
-        }
-    }
-    None
-}
+use crate::questions::OwnerMap;
+use crate::refusal::Refusal;
 
 impl OwnerMap for OwnerTable {
     ghost meaning = { table_deal };
@@ -41,32 +12,32 @@ impl OwnerMap for OwnerTable {
     ghost sound = { λ m. m.sound };
 
     fn boards(&self) -> usize {
-        self.boards
+        self.numbers.boards
     }
 
     fn length(&self) -> usize {
-        self.size
+        self.numbers.length
     }
 
     fn place(&self, x: usize) -> Result<(usize, usize), Refusal> {
-        if x < 1 || x > self.size {
-            return Err(Refusal::OutsideNumbers);
-        }
-        let owner = self.row[x - 1];
-        Ok((owner, occurrences(&self.row[0..x - 1], owner)))
+        let before = self.numbers.before_position(x)?;
+        let owner = self.row[before];
+        let rank = self.row[..before].iter().filter(|o| **o == owner).count();
+        Ok((owner, rank))
     }
 
     fn position(&self, board: usize, rank: usize) -> Result<Option<usize>, Refusal> {
-        if board >= self.boards {
-            return Err(Refusal::OutsideNumbers);
-        }
-        Ok(find(&self.row[0..self.size], board, rank))
+        self.numbers.check_board(board)?;
+        let mut owned = (1..self.numbers.length + 1)
+            .zip(&self.row)
+            .filter(|(_, owner)| **owner == board);
+        Ok(owned.nth(rank).map(|(x, _)| x))
     }
 
     fn count_below(&self, board: usize, bound: usize) -> Result<usize, Refusal> {
-        if board >= self.boards || bound < 1 || bound > self.size + 1 {
-            return Err(Refusal::OutsideNumbers);
-        }
-        Ok(occurrences(&self.row[0..bound - 1], board))
+        self.numbers.check_board(board)?;
+        let below = self.numbers.below_bound(bound)?;
+        let owned = self.row[..below].iter().filter(|owner| **owner == board);
+        Ok(owned.count())
     }
 }

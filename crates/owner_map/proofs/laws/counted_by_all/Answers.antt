@@ -1,16 +1,7 @@
 use Rattle.std.proofs.Common.{◌≡◌, ap, ◌∙◌, arith}
-use Rattle.std.proofs.lemmas.Result.{err_from_is_err_and}
-use Rattle.owner_map.specs.Meaning.{Deal, Board, Bound, below, sum_over}
+use Rattle.owner_map.specs.Meaning.{Deal, Bound, below, sum_over}
 use Rattle.owner_map.specs.Deals.{below_le, counts_add_up, sum_over_more}
 use Rattle.owner_map.proofs.laws.counted_by_all.Goals as goal
-
-pub returns-in_err-total : goal.returns-in_err-total
-returns-in_err-total g c =
-    let d : Deal = g.M.OwnerMap.meaning c.args.map.now in
-    let refused = err_from_is_err_and c.from_residual.result c.from_residual.ensures.1 in
-    let why = c.in_err-total.ensures in
-    let board : Board d c.loop-board.board = omega arith in
-    record { answer = rw (refused.1, refused.2) (λ on. why.0 (board, on), why.1); law = counts_add_up d (g.met.M.OwnerMap.sound c.args.map.now) }
 
 pub overflow_add-total : goal.overflow_add-total
 overflow_add-total g c =
@@ -29,11 +20,9 @@ loop-board-preserved g c =
     let more = sum_over_more c.loop-board.board (λ b. below d b c.args.bound) in
     (c.loop-board.invariant.0, omega arith, omega arith, λ _. one.0.1)
 
-pub returns : goal.returns
-returns g c =
+pub returns-clause-answer : goal.returns-clause-answer
+returns-clause-answer g c =
     let d : Deal = g.M.OwnerMap.meaning c.args.map.now in
-    let sound = g.met.M.OwnerMap.sound c.args.map.now in
     let all : c.loop-board.board ≡ d.boards = omega arith in
-    let on : Bound d c.args.bound = c.loop-board.invariant.3 (omega arith) in
-    let law = counts_add_up d sound in
-    record { answer = (on, c.loop-board.invariant.2 ∙ ap (λ p. sum_over p (λ b. below d b c.args.bound)) all ∙ law c.args.bound on); law = law }
+    let on : Bound d c.args.bound = c.loop-board.invariant.3 (omega (arith, g.met.M.OwnerMap.sound c.args.map.now)) in
+    (on, c.loop-board.invariant.2 ∙ ap (λ p. sum_over p (λ b. below d b c.args.bound)) all ∙ counts_add_up d (g.met.M.OwnerMap.sound c.args.map.now) c.args.bound on)

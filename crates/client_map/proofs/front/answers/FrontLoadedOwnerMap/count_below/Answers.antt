@@ -1,22 +1,19 @@
-use Rattle.std.proofs.Common.{◌+◌, ◌<◌, ◌≤◌, sym, refl, arith}
+use Rattle.std.proofs.Common.{sym, arith}
+use Rattle.std.proofs.lemmas.Grind.{common_steps}
 use Rattle.client_map.specs.FrontDeals.{extent_front, below_front}
 use Rattle.client_map.proofs.front.answers.FrontLoadedOwnerMap.count_below.Goals as goal
-use Rattle.client_map.proofs.front.answers.FrontLoadedOwnerMap.count_below.Goals.{then-board-self-via-then-board-self, then-board-self-via-else-board-self+then-bound-lt1, then-board-self-via-else-board-self+else-bound-lt1+then-bound-self}
 
-pub returns-then-board-self : goal.returns-then-board-self
-returns-then-board-self c =
+pub returns-in_err-before : goal.returns-in_err-before
+returns-in_err-before c =
     let m = c.args.self.now in
-    let e = extent_front m.boards m.size m.front in
-    (λ on. elim c.then-board-self.branch [ then-board-self-via-then-board-self w ↦ omega arith | then-board-self-via-else-board-self+then-bound-lt1 w ↦ omega arith | then-board-self-via-else-board-self+else-bound-lt1+then-bound-self w ↦ omega arith ], refl)
+    let e = extent_front m.numbers.boards m.numbers.length m.front in
+    grind (arith, common_steps)
 
 pub returns : goal.returns
 returns c =
     let m = c.args.self.now in
-    let e = extent_front m.boards m.size m.front in
-    let board : c.args.board < m.boards = omega arith in
-    let high : c.args.bound ≤ m.size + 1 = omega arith in
-    let t = below_front m.boards m.size m.front m.sizes.0 c.args.board c.args.bound board high in
-    let part = c.front_of.ensures in
-    let in_front = c.min-in_front.ensures in
-    let behind = c.saturating_sub-dealt.ensures in
-    (omega arith, rw (in_front, behind, part) (sym t))
+    let e = extent_front m.numbers.boards m.numbers.length m.front in
+    let board = c.in_ok-check_board.ensures.0 in
+    let on = c.in_ok-before.ensures in
+    let t = below_front m.numbers.boards m.numbers.length m.front m.numbers.within.0 c.args.board c.args.bound board on.0.1 in
+    ((board, (on.0.0, omega arith)), rw (c.min-in_front.ensures, c.saturating_sub-dealt.ensures, c.front_of.ensures, on.1) (sym t))

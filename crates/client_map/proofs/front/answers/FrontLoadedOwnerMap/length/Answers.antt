@@ -3,4 +3,4 @@ use Rattle.client_map.specs.FrontDeals.{extent_front}
 use Rattle.client_map.proofs.front.answers.FrontLoadedOwnerMap.length.Goals as goal
 
 pub returns : goal.returns
-returns c = let m = c.args.self.now in omega (arith, extent_front m.boards m.size m.front)
+returns c = let m = c.args.self.now in omega (arith, extent_front m.numbers.boards m.numbers.length m.front)

@@ -1,29 +1,26 @@
-use Rattle.std.proofs.Common.{◌<◌, ◌≤◌, sym, refl, arith}
+use Rattle.std.proofs.Common.{◌<◌, ◌≤◌, sym, arith}
+use Rattle.std.proofs.lemmas.Grind.{common_steps}
 use Rattle.client_map.specs.FrontDeals.{extent_front, place_front, place_behind}
 use Rattle.client_map.proofs.front.answers.FrontLoadedOwnerMap.place.Goals as goal
-use Rattle.client_map.proofs.front.answers.FrontLoadedOwnerMap.place.Goals.{then-x-lt1-via-then-x-lt1, then-x-lt1-via-else-x-lt1+then-x-self}
 
-pub returns-then-x-lt1 : goal.returns-then-x-lt1
-returns-then-x-lt1 c =
+pub returns-in_err-before : goal.returns-in_err-before
+returns-in_err-before c =
     let m = c.args.self.now in
-    let e = extent_front m.boards m.size m.front in
-    (λ on. elim c.then-x-lt1.branch [ then-x-lt1-via-then-x-lt1 w ↦ omega arith | then-x-lt1-via-else-x-lt1+then-x-self w ↦ omega arith ], refl)
+    let e = extent_front m.numbers.boards m.numbers.length m.front in
+    grind (arith, common_steps)
 
-pub returns-then-x-self-2 : goal.returns-then-x-self-2
-returns-then-x-self-2 c =
+pub returns-then-before-self : goal.returns-then-before-self
+returns-then-before-self c =
     let m = c.args.self.now in
-    let low : 1 ≤ c.args.x = omega arith in
-    let high : c.args.x ≤ m.size = omega arith in
-    let front : c.args.x ≤ m.front = omega arith in (
-      omega (arith, extent_front m.boards m.size m.front),
-      sym (place_front m.boards m.size m.front m.sizes.0 c.args.x low high front),
-    )
+    let e = extent_front m.numbers.boards m.numbers.length m.front in
+    let on = c.in_ok-before.ensures in
+    let front : c.args.x ≤ m.front = omega arith in
+    ((on.0.0, omega arith), rw on.1 (sym (place_front m.numbers.boards m.numbers.length m.front m.numbers.within.0 c.args.x on.0.0 on.0.1 front)))
 
 pub returns : goal.returns
 returns c =
     let m = c.args.self.now in
-    let high : c.args.x ≤ m.size = omega arith in
-    let behind : m.front < c.args.x = omega arith in (
-      omega (arith, extent_front m.boards m.size m.front),
-      rw c.front_of.ensures (sym (place_behind m.boards m.size m.front m.sizes.0 c.args.x high behind)),
-    )
+    let e = extent_front m.numbers.boards m.numbers.length m.front in
+    let on = c.in_ok-before.ensures in
+    let behind : m.front < c.args.x = omega arith in
+    ((on.0.0, omega arith), rw (c.front_of.ensures, on.1) (sym (place_behind m.numbers.boards m.numbers.length m.front m.numbers.within.0 c.args.x on.0.1 behind)))

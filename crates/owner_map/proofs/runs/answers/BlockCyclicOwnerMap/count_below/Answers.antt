@@ -1,22 +1,19 @@
-use Rattle.std.proofs.Common.{◌+◌, ◌<◌, ◌≤◌, refl, arith}
+use Rattle.std.proofs.Common.{arith}
+use Rattle.std.proofs.lemmas.Grind.{common_steps}
 use Rattle.owner_map.specs.BlockCyclicDeals.{extent_runs, below_runs}
 use Rattle.owner_map.proofs.runs.answers.BlockCyclicOwnerMap.count_below.Goals as goal
-use Rattle.owner_map.proofs.runs.answers.BlockCyclicOwnerMap.count_below.Goals.{then-board-self-via-then-board-self, then-board-self-via-else-board-self+then-bound-lt1, then-board-self-via-else-board-self+else-bound-lt1+then-bound-self}
 
-pub returns-then-board-self : goal.returns-then-board-self
-returns-then-board-self c =
+pub returns-in_err-before : goal.returns-in_err-before
+returns-in_err-before c =
     let m = c.args.self.now in
-    let e = extent_runs m.width m.boards m.size in
-    (λ on. elim c.then-board-self.branch [ then-board-self-via-then-board-self w ↦ omega arith | then-board-self-via-else-board-self+then-bound-lt1 w ↦ omega arith | then-board-self-via-else-board-self+else-bound-lt1+then-bound-self w ↦ omega arith ], refl)
+    let e = extent_runs m.width m.numbers.boards m.numbers.length in
+    grind (arith, common_steps)
 
 pub returns : goal.returns
 returns c =
     let m = c.args.self.now in
-    let e = extent_runs m.width m.boards m.size in
-    let board : c.args.board < m.boards = omega arith in
-    let high : c.args.bound ≤ m.size + 1 = omega arith in
-    let t = below_runs m.width m.boards m.size m.wide m.sizes.0 c.args.board c.args.bound board high in
-    let part = c.saturating_sub-begun.ensures in
-    let least = c.min.ensures in
-    let round = c.round-round.ensures.product in
-    (omega arith, rw (least, part, round) (omega arith))
+    let e = extent_runs m.width m.numbers.boards m.numbers.length in
+    let board = c.in_ok-check_board.ensures.0 in
+    let on = c.in_ok-before.ensures in
+    let t = below_runs m.width m.numbers.boards m.numbers.length m.wide m.numbers.within.0 c.args.board c.args.bound board on.0.1 in
+    ((board, (on.0.0, omega arith)), rw (c.min.ensures, c.saturating_sub-begun.ensures, c.round-round.ensures.product, on.1) (omega arith))

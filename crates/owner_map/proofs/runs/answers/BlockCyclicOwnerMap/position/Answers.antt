@@ -1,29 +1,23 @@
-use Rattle.std.proofs.Common.{◌<◌, ◌≤◌, sym, arith}
-use Rattle.owner_map.specs.Meaning.{extent}
+use Rattle.std.proofs.Common.{arith}
+use Rattle.std.proofs.lemmas.Grind.{common_steps}
+use Rattle.std.proofs.lemmas.Bool.Decides.{nat_tests}
 use Rattle.owner_map.specs.Runs.{runs_deal}
 use Rattle.owner_map.specs.BlockCyclicDeals.{extent_runs, position_runs, none_runs}
-use Rattle.owner_map.specs.ClosedForms.{before}
 use Rattle.owner_map.specs.Deals.{none_past_extent}
 use Rattle.owner_map.proofs.runs.answers.BlockCyclicOwnerMap.position.Goals as goal
 
 pub returns-then-rank-self : goal.returns-then-rank-self
 returns-then-rank-self c =
     let m = c.args.self.now in
-    let past : extent (runs_deal m) ≤ c.args.rank = omega (arith, extent_runs m.width m.boards m.size) in
-    (omega arith, sym (none_past_extent (runs_deal m) c.args.board c.args.rank past))
+    let e = extent_runs m.width m.numbers.boards m.numbers.length in
+    let none = none_past_extent (runs_deal m) c.args.board c.args.rank (omega arith) in
+    grind (arith, common_steps)
 
-pub returns-then-before-self : goal.returns-then-before-self
-returns-then-before-self c =
+pub returns : goal.returns
+returns c =
     let m = c.args.self.now in
-    let board : c.args.board < m.boards = omega arith in
     let round = c.round.ensures.product in
-    let within : before m.width m.boards c.args.board c.args.rank < m.size = rw (sym round) (omega arith) in
-    (board, rw round (sym (position_runs m.width m.boards m.size m.wide m.sizes.0 c.args.board c.args.rank board within)))
-
-pub returns-else-before-self : goal.returns-else-before-self
-returns-else-before-self c =
-    let m = c.args.self.now in
-    let board : c.args.board < m.boards = omega arith in
-    let round = c.round.ensures.product in
-    let past : m.size ≤ before m.width m.boards c.args.board c.args.rank = rw (sym round) (omega arith) in
-    (board, sym (none_runs m.width m.boards m.size m.wide m.sizes.0 c.args.board c.args.rank board past))
+    let board = c.in_ok-check_board.ensures.0 in
+    let some = position_runs m.width m.numbers.boards m.numbers.length m.wide m.numbers.within.0 c.args.board c.args.rank board in
+    let none = none_runs m.width m.numbers.boards m.numbers.length m.wide m.numbers.within.0 c.args.board c.args.rank board in
+    grind (arith, common_steps, nat_tests)

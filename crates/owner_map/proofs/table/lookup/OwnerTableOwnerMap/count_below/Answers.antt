@@ -1,11 +1,13 @@
-use Rattle.std.proofs.Common.{◌+◌, ◌≤◌, sym, ◌∙◌, arith}
+use Rattle.std.proofs.Common.{◌≡◌, ◌==◌, ◌∙◌, count_by, take, arith, rules}
 use Rattle.std.proofs.lemmas.List.{length-take-le}
-use Rattle.owner_map.proofs.RowSteps.{below_listed}
+use Rattle.owner_map.proofs.RowSteps.{below_counted}
 use Rattle.owner_map.proofs.table.lookup.OwnerTableOwnerMap.count_below.Goals as goal
 
 pub returns : goal.returns
 returns c =
     let m = c.args.self.now in
-    let size = length-take-le m.size m.row (omega arith) in
-    let high : c.args.bound ≤ m.size + 1 = omega arith in
-    (omega arith, c.occurrences.ensures ∙ sym (below_listed m.boards m.size m.row c.args.board c.args.bound high))
+    let k = c.in_ok-below.below in
+    let on = c.in_ok-below.ensures in
+    let n : c.count.result ≡ count_by (λ o. o == c.args.board) (take k m.row) = search rules in
+    let size = length-take-le m.numbers.length m.row (omega arith) in
+    ((c.in_ok-check_board.ensures.0, (on.0.0, omega arith)), n ∙ below_counted m.numbers.boards m.numbers.length m.row c.args.board c.args.bound k on.0.1 on.1)

@@ -1,12 +1,13 @@
-use Rattle.std.proofs.Common.{◌≤◌, sym, arith}
+use Rattle.std.proofs.Common.{◌≡◌, ◌==◌, ◌∙◌, ap, count_by, take, get_or, arith, rules}
 use Rattle.std.proofs.lemmas.List.{length-take-le}
-use Rattle.owner_map.proofs.RowSteps.{place_listed}
+use Rattle.owner_map.proofs.RowSteps.{place_counted}
 use Rattle.owner_map.proofs.table.lookup.OwnerTableOwnerMap.place.Goals as goal
 
 pub returns : goal.returns
 returns c =
     let m = c.args.self.now in
-    let size = length-take-le m.size m.row (omega arith) in
-    let low : 1 ≤ c.args.x = omega arith in
-    let high : c.args.x ≤ m.size = omega arith in
-    (omega arith, rw c.occurrences.ensures (sym (place_listed m.boards m.size m.row c.args.x low high)))
+    let k = c.in_ok-before.before in
+    let on = c.in_ok-before.ensures in
+    let n : c.count-rank.result ≡ count_by (λ o. o == get_or m.row k 0) (take k m.row) = search rules in
+    let size = length-take-le m.numbers.length m.row (omega arith) in
+    ((on.0.0, omega arith), ap (λ r. (get_or m.row k 0, r)) n ∙ place_counted m.numbers.boards m.numbers.length m.row c.args.x k on.0.0 on.0.1 on.1)
