@@ -9,9 +9,8 @@ use Rattle.layout.specs.Places.{total}
 use Rattle.sections.specs.Sections.{Deals, Fits}
 use Rattle.sequential.specs.Iterations.{iterations}
 use Rattle.sequential.specs.Laws.{In}
-use Rattle.sequential.specs.Run.{Setting, setting_of, Buffers, value_in, target_in, hold, hold_and_store, doing, in_mode, after_statement, after_sweep, after_sweeps}
+use Rattle.sequential.specs.Run.{Setting, setting_of, Buffers, value_in, target_in, hold, hold_and_store, doing, in_mode, after_statement, after_sweep, after_sweeps, Hold, HoldAndStore}
 use Rattle.sequential.specs.declared.iteration.Iteration.{Iteration}
-use Rattle.sequential.specs.declared.work.Work.TheVariants.{Hold, HoldAndStore}
 use Rattle.sequential.proofs.Passing.{held_elements, held_length, stored_held, stored_length}
 use Rattle.compiler.specs.Deeds.{Deed, rests, ships, holds, adds_own, adds_taken, stores}
 use Rattle.compiler.specs.Laws.{AllSound}

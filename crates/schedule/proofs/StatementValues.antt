@@ -13,6 +13,7 @@ use Rattle.sequential.proofs.Lists.{in_map}
 use Rattle.compiler.specs.Cells.{element_at}
 use Rattle.schedule.specs.Boards.{coefficient_of}
 use Rattle.schedule.specs.Start.{There, Agrees}
+use Rattle.schedule.proofs.EventLists.{in_mapped}
 use Rattle.schedule.proofs.WrittenValues.{one_or_two, others_stay, targets_made}
 use Rattle.schedule.proofs.TaskEvents.{target_at, term_added}
 use Rattle.schedule.proofs.StatementPasses.{bases_held, terms_held, all_stored, values_held}
@@ -100,14 +101,10 @@ module _ {V : Type 0} (k : Setting V) (s : Said) where
           others_stay (target_at s) (λ e _. full (target_at s e)) es elements x none
           ∙ agrees x at ∙ sym (stored.other_elements (place_of k.arrays x.0 x.1 x.2) (λ m. none (placed m)))
         where
-          back : (e : Iteration) (ys : List Iteration) → In e ys → x ≡ target_at s e → In x (map (target_at s) ys)
-          back e (y ∷ ys) (inl q) p = inl (p ∙ ap (target_at s) q)
-          back e (y ∷ ys) (inr m) p = inr (back e ys m p)
-          back e [] m p = absurd m
-
           placed : In (place_of k.arrays x.0 x.1 x.2) (targets_of k.arrays s) → In x (map (target_at s) es)
           placed m =
               let h = in_map (target_in k.arrays s) (place_of k.arrays x.0 x.1 x.2) es m in
               let y = target_at s h.0 in
               let t = place_alone k.arrays x.0 x.1 x.2 y.0 y.1 y.2 at (targets h.0 h.1) h.2 in
-              back h.0 es h.1 (λ i. (t.0 i, t.1 i, t.2 i))
+              let same : x ≡ y = λ i. (t.0 i, t.1 i, t.2 i) in
+              rw same (in_mapped (target_at s) h.0 es h.1)

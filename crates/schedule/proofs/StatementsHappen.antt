@@ -13,10 +13,9 @@ use Rattle.layout.specs.Places.{place_of, total}
 use Rattle.sections.specs.Order.{Element}
 use Rattle.sections.specs.Sections.{Deals}
 use Rattle.sequential.specs.Iterations.{iterations}
-use Rattle.sequential.specs.Run.{Setting, setting_of, Buffers, value_in, target_in, hold_and_store, doing, in_mode}
+use Rattle.sequential.specs.Run.{Setting, setting_of, Buffers, value_in, target_in, hold_and_store, doing, in_mode, HoldAndStore}
 use Rattle.sequential.specs.Laws.{In, Distinct, StoredTogether}
 use Rattle.sequential.specs.declared.iteration.Iteration.{Iteration}
-use Rattle.sequential.specs.declared.work.Work.TheVariants.{HoldAndStore}
 use Rattle.sequential.proofs.Kept.{Parts, parts_of}
 use Rattle.sequential.proofs.Targets.{targets_apart, target_below}
 use Rattle.sequential.proofs.ModeLaws.{each_in, modes_mean}

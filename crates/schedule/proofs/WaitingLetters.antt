@@ -1,7 +1,8 @@
 -- The rows of letters as one list of the letters that wait, each with its sender and its receiver. Assumes nothing.
-use Rattle.std.proofs.Common.{◌≡◌, ℕ, Bool, true, false, cond, ◌&&◌, eqb, List, [], ◌∷◌, ◌++◌, sym, refl, ap, ◌∙◌, ⊎_elim, append-nil}
+use Rattle.std.proofs.Common.{◌≡◌, ℕ, Bool, true, false, cond, ◌&&◌, eqb, List, [], ◌∷◌, ◌++◌, sym, refl, ap, ◌∙◌, append-nil, arith}
 use mathlib.Core.Path.{fun_ext}
-use Rattle.std.proofs.lemmas.Bool.{cases_Bool, eqb-true, eqb-false, eq-eqb, ne_eqb, and_from}
+use Rattle.std.proofs.lemmas.Bool.{eq-eqb, and_from}
+use Rattle.std.proofs.lemmas.Bool.Decides.{nat_tests}
 use Rattle.network.specs.Request.{changed, joined as put_last, without_oldest}
 
 -- a letter that waits: its sender, its receiver, its value
@@ -19,8 +20,7 @@ eqb_same n = eq-eqb n n refl
 
 -- equality reads the same from both sides
 pub eqb_turned : (m n : ℕ) → eqb m n ≡ eqb n m
-eqb_turned m n =
-    ⊎_elim (λ t. t ∙ sym (eq-eqb n m (sym (eqb-true m n t)))) (λ f. f ∙ sym (ne_eqb n m (λ p. eqb-false m n f (sym p)))) (cases_Bool (eqb m n))
+eqb_turned m n = grind (arith, nat_tests)
 
 same_pair : (p q : ℕ) → (eqb p p && eqb q q) ≡ true
 same_pair p q = and_from (eqb p p) (eqb q q) (eqb_same p) (eqb_same q)

@@ -9,6 +9,7 @@ use Rattle.sections.specs.Order.{Element}
 use Rattle.sequential.specs.Laws.{In, Distinct}
 use Rattle.schedule.specs.Boards.{same_element, written}
 use Rattle.schedule.specs.Start.{There, Agrees}
+use Rattle.schedule.proofs.EventLists.{in_mapped}
 
 -- equal elements pass the test, and only they
 pub same_itself : (e : Element) → same_element e e ≡ true
@@ -75,9 +76,4 @@ module _ {V X : Type 0} (target : X → Element) (make : X → V → V) where
       ∙ ap (λ x. make x (values (target x))) (sym p)
   targets_made (f ∷ es) values apart e (inr m) =
       targets_made es (rewritten values f) apart.1 e m
-      ∙ ap (make e) (written_elsewhere (target f) (make f (values (target f))) values (target e) (λ p. apart.0 (found es p m)))
-    where
-      found : (xs : List X) → target e ≡ target f → In e xs → In (target f) (map target xs)
-      found (x ∷ xs) p (inl q) = inl (sym p ∙ ap target q)
-      found (x ∷ xs) p (inr n) = inr (found xs p n)
-      found [] p n = absurd n
+      ∙ ap (make e) (written_elsewhere (target f) (make f (values (target f))) values (target e) (λ p. apart.0 (rw p at (in_mapped target e es m))))
