@@ -1,15 +1,28 @@
 // Asks every map of every make, for 1 to 8 boards and 1 to 32 positions, and prints sums of the answers.
 #![tactic(auto)]
 
-use owner_map::{Make, OwnerMap, deal_out};
+use owner_map::{Make, OwnerMap, Refusal, deal_out};
+use std::fmt;
 
 /// Sums of answers, each weighted so that a swapped answer shows.
-#[derive(Clone, Copy)]
+#[derive(Clone, Copy, Default)]
 struct Sums {
     places: u64,
     positions: u64,
     counts: u64,
     refused: u64,
+}
+
+impl fmt::Display for Sums {
+    fn fmt<W: fmt::Write>(&self, f: &mut fmt::Formatter<W>) -> fmt::Result {
+        let Sums {
+            places,
+            positions,
+            counts,
+            refused,
+        } = self;
+        write!(f, "{places} {positions} {counts} {refused}")
+    }
 }
 
 fn mixed(sum: u64, a: usize, b: usize) -> u64 {
@@ -18,85 +31,60 @@ fn mixed(sum: u64, a: usize, b: usize) -> u64 {
         & 0xffff_ffff
 }
 
-fn ask_places<M: OwnerMap>(map: &M, sums: &mut Sums) {
-    for x in 0..34 {
-        match map.place(x) {
-            Ok((owner, rank)) => sums.places = mixed(sums.places, owner, rank),
-            Err(_) => sums.refused = sums.refused.wrapping_add(1),
-        }
-    }
-}
-
-fn ask_positions<M: OwnerMap>(map: &M, board: usize, sums: &mut Sums) {
-    for rank in 0..33 {
-        match map.position(board, rank) {
-            Ok(Some(x)) => sums.positions = mixed(sums.positions, x, 1),
-            Ok(None) => sums.positions = mixed(sums.positions, 0, 2),
-            Err(_) => sums.refused = sums.refused.wrapping_add(1),
-        }
-    }
-}
-
-fn ask_counts<M: OwnerMap>(map: &M, board: usize, sums: &mut Sums) {
-    for bound in 0..35 {
-        match map.count_below(board, bound) {
-            Ok(count) => sums.counts = mixed(sums.counts, count, 0),
-            Err(_) => sums.refused = sums.refused.wrapping_add(1),
-        }
+/// Mixes an answer into the sum of its question, or counts it among the refused.
+fn take_in(sum: &mut u64, refused: &mut u64, answer: Result<(usize, usize), Refusal>) {
+    match answer {
+        Ok((a, b)) => *sum = mixed(*sum, a, b),
+        Err(_) => *refused = refused.wrapping_add(1),
     }
 }
 
 fn ask_all<M: OwnerMap>(map: &M, sums: &mut Sums) {
-    ask_places(map, sums);
+    for x in 0..34 {
+        take_in(&mut sums.places, &mut sums.refused, map.place(x));
+    }
     for board in 0..9 {
-        ask_positions(map, board, sums);
-        ask_counts(map, board, sums);
-    }
-}
-
-fn print_sums(rt: &HostRuntime, name: &str, boards: usize, sums: Sums) -> anyhow::Result<()> {
-    let (places, positions, counts, refused) = (
-        sums.places,
-        sums.positions,
-        sums.counts,
-        sums.refused,
-    );
-    println!(rt; "{name} {boards}: {places} {positions} {counts} {refused}")?;
-    Ok(())
-}
-
-fn try_make(rt: &HostRuntime, name: &str, make: Make) -> anyhow::Result<()> {
-    for boards in 0..10 {
-        let mut sums = Sums {
-            places: 0,
-            positions: 0,
-            counts: 0,
-            refused: 0,
-        };
-        for length in 0..34 {
-            match deal_out(make, boards, length) {
-                Ok(map) => ask_all(&map, &mut sums),
-                Err(_) => sums.refused = sums.refused.wrapping_add(1),
-            }
+        for rank in 0..33 {
+            let found = map.position(board, rank);
+            let answer = found.map(|found| found.map_or((0, 2), |x| (x, 1)));
+            take_in(&mut sums.positions, &mut sums.refused, answer);
         }
-        print_sums(rt, name, boards, sums)?;
+        for bound in 0..35 {
+            let answer = map.count_below(board, bound).map(|count| (count, 0));
+            take_in(&mut sums.counts, &mut sums.refused, answer);
+        }
     }
-    Ok(())
 }
 
-fn run(rt: &HostRuntime) -> anyhow::Result<()> {
-    try_make(rt, "one", Make::One)?;
-    try_make(rt, "block", Make::Block)?;
-    try_make(rt, "cyclic", Make::Cyclic)?;
-    try_make(rt, "cyclic:0", Make::CyclicBy(0))?;
-    try_make(rt, "cyclic:1", Make::CyclicBy(1))?;
-    try_make(rt, "cyclic:2", Make::CyclicBy(2))?;
-    try_make(rt, "cyclic:3", Make::CyclicBy(3))?;
-    try_make(rt, "cyclic:5", Make::CyclicBy(5))?;
-    try_make(rt, "cyclic:32", Make::CyclicBy(32))?;
-    try_make(rt, "cyclic:33", Make::CyclicBy(33))
+fn sums_of(make: Make, boards: usize) -> Sums {
+    let mut sums = Sums::default();
+    for length in 0..34 {
+        match deal_out(make, boards, length) {
+            Ok(map) => ask_all(&map, &mut sums),
+            Err(_) => sums.refused = sums.refused.wrapping_add(1),
+        }
+    }
+    sums
 }
 
 fn main(rt: HostRuntime) -> anyhow::Result<()> {
-    run(&rt)
+    let makes = [
+        ("one", Make::One),
+        ("block", Make::Block),
+        ("cyclic", Make::Cyclic),
+        ("cyclic:0", Make::CyclicBy(0)),
+        ("cyclic:1", Make::CyclicBy(1)),
+        ("cyclic:2", Make::CyclicBy(2)),
+        ("cyclic:3", Make::CyclicBy(3)),
+        ("cyclic:5", Make::CyclicBy(5)),
+        ("cyclic:32", Make::CyclicBy(32)),
+        ("cyclic:33", Make::CyclicBy(33)),
+    ];
+    for (name, make) in makes {
+        for boards in 0..10 {
+            let sums = sums_of(make, boards);
+            println!(rt; "{name} {boards}: {sums}")?;
+        }
+    }
+    Ok(())
 }

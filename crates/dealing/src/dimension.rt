@@ -1,5 +1,5 @@
 /// The two dimensions of an array.
-#[derive(Clone, Copy)]
+#[derive(Clone, Copy, PartialEq, Eq, Debug)]
 pub enum Dimension {
     /// Dealt over the rows of the grid.
     Rows,

@@ -19,10 +19,7 @@ fn map_over(dimension: Dimension, grid: Grid, array: Array) -> BlockCyclic
         Dimension::Rows => map_of(array.row_map, grid.rows, array.rows),
         Dimension::Columns => map_of(array.column_map, grid.columns, array.columns),
     };
-    match made {
-        Ok(map) => map,
-        Err(_) => unreachable(),
-    }
+    made.unwrap()
 }
 
 /// The map of one dimension of each array, in the order of the sheet. Want of memory is the only fault.
@@ -34,9 +31,9 @@ pub fn maps_over(
     ensures { IfOk result (λ v. map runs_deal v.items ≡ map (deal_over dimension (shown nest.now).grid) (shown nest.now).arrays) }
 {
     let grid = nest.grid();
-    let mut maps = Vec::new(heap);
-    for array in nest.arrays().iter() {
-        maps.push(map_over(dimension, grid, *array))?;
-    }
-    Ok(maps)
+    let maps = nest
+        .arrays()
+        .iter()
+        .map(|array| map_over(dimension, grid, *array));
+    maps.collect(heap)
 }

@@ -9,6 +9,7 @@ use nest::terms::MapWord;
 use owner_map::{BlockCyclic, Make, Refusal, deal_out};
 
 /// The make that a word of a sheet names.
+// Kept: an `impl From<MapWord> for Make` may stand only in the crate of one of the two, and neither knows the other.
 pub fn make_of(word: MapWord) -> Make
     ensures { result ≡ make_of word }
 {
