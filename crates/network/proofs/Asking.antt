@@ -3,7 +3,7 @@ use Rattle.std.proofs.Common.{◌≡◌, ℕ, zero, suc, ◌+◌, ◌≤◌, Lis
 use Rattle.std.proofs.lemmas.Bool.{cases_eq}
 use Rattle.network.specs.Runs.{Asked, state_after, answers, tally, is_ran, is_ended, steps_run, CameTo, HasEnded, AllEnded, Names, NamesAll, in_turn}
 use Rattle.network.specs.declared.answer.Answer.{Answer}
-use Rattle.network.specs.declared.answer.Answer.TheVariants.{Ran, Waiting, Ended, Refused}
+use Rattle.network.specs.declared.answer.Answer.TheVariants.{Ended}
 
 module _ {X : Type 0} (ask : Asked X) where
   pub state_after_++ : (xs ys : List ℕ) (s : X) → state_after ask s (xs ++ ys) ≡ state_after ask (state_after ask s xs) ys
@@ -57,10 +57,8 @@ ended_is_one : (a : Answer) → a ≡ Ended → is_ended a ≡ 1
 ended_is_one a e = ap is_ended e
 
 is_ended_tells : (a : Answer) → (is_ended a ≤ 1) × (is_ended a ≡ 1 → a ≡ Ended)
-is_ended_tells Ran = (omega arith, λ h. absurd (omega (arith, h)))
-is_ended_tells Waiting = (omega arith, λ h. absurd (omega (arith, h)))
 is_ended_tells Ended = (omega arith, λ h. refl)
-is_ended_tells Refused = (omega arith, λ h. absurd (omega (arith, h)))
+is_ended_tells _ = (omega arith, λ h. absurd (omega (arith, h)))
 
 pub record Quiet {X : Type 0} (ask : Asked X) (s : X) (n : ℕ) : Type 0 where
   pub unchanged : state_after ask s (in_turn n) ≡ s

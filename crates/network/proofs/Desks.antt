@@ -33,9 +33,9 @@ module _ {S : Type 0} (line : Line S) (desks : List (Desk S)) (p : ℕ) where
   abbrev pub Left : Answer → List (Desk S) → Type 0
   Left a desks' = kept.Left (way line) (owns desks) (letters desks) p a (owns desks') (letters desks')
 
-  -- the same, under other names of the answer and the desks
-  pub told : {a a' : Answer} {desks' desks'' : List (Desk S)} → Left a desks' → a' ≡ a → desks'' ≡ desks' → Left a' desks''
-  told {a} {a'} {desks'} {desks''} x e f = subst (λ b. Left b desks'') (sym e) (subst (Left a) (sym f) x)
+  -- the same, under another name of the desks
+  pub told : {a : Answer} {desks' desks'' : List (Desk S)} → Left a desks' → desks'' ≡ desks' → Left a desks''
+  told {a} x e = subst (Left a) (sym e) x
 
   -- the same, by the two lists that are left
   by_lists : {a : Answer} (desks' : List (Desk S)) {owns' : List S} {letters' : List (Option ℕ)}
@@ -64,7 +64,7 @@ module _ {S : Type 0} (line : Line S) (desks : List (Desk S)) (p : ℕ) where
         → Left Waiting (set desks q (desk (at q).own v))
     take_waits q go v e there none left =
         let same : set desks q (desk (at q).own v) ≡ desks = ap (λ x. set desks q (desk (at q).own x)) (left ∙ sym none) ∙ set-get_or desks q (desk line.idle None) in
-        told (kept.take_waits (way line) (owns desks) (letters desks) p inside q go (rw own_is e) there (ap option_to_list (letter_is q ∙ none))) refl same
+        told (kept.take_waits (way line) (owns desks) (letters desks) p inside q go (rw own_is e) there (ap option_to_list (letter_is q ∙ none))) same
 
     module _ (here : p < length desks) where
       pub ran_alone : (t : S) → line.network.next p (at p).own ≡ goes_on t → line.weight t < line.weight (at p).own

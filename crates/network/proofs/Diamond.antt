@@ -5,20 +5,18 @@ use Rattle.std.proofs.lemmas.Bool.{cases_eq}
 use Rattle.network.specs.Runs.{Asked, state_after, answers, is_ran, tally, steps_run, WouldRun, HasEnded, AllEnded, AllRan, Complete}
 use Rattle.network.specs.Laws.{Undisturbed, Led}
 use Rattle.network.specs.declared.answer.Answer.{Answer}
-use Rattle.network.specs.declared.answer.Answer.TheVariants.{Ran, Waiting, Ended, Refused}
+use Rattle.network.specs.declared.answer.Answer.TheVariants.{Ran, Ended}
 
 pub ran_or_not : (a : Answer) → (a ≡ Ran) ⊎ (is_ran a ≡ 0)
 ran_or_not Ran = inl refl
-ran_or_not Waiting = inr refl
-ran_or_not Ended = inr refl
-ran_or_not Refused = inr refl
+ran_or_not _ = inr refl
 
 pub ran_is_one : (a : Answer) → a ≡ Ran → is_ran a ≡ 1
 ran_is_one a e = ap is_ran e
 
 -- no answer is both
 pub ran_not_ended : (a : Answer) → a ≡ Ran → a ≡ Ended → ⊥
-ran_not_ended a p q = let z : ◌≡◌ {A = ℕ} 0 1 = cc in omega arith
+ran_not_ended a p q = cc
 
 pub ran_not_zero : (a : Answer) → a ≡ Ran → is_ran a ≡ 0 → ⊥
 ran_not_zero a p q = omega (arith, ran_is_one a p)

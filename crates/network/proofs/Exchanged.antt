@@ -18,7 +18,7 @@ start first second = exchange_state (partner Putting first ∷ partner Putting s
 abbrev pub turns : List ℕ
 turns = 0 ∷ 1 ∷ 0 ∷ 1 ∷ []
 
-pub exchange_completes : (first second : ℕ) → Complete (request exchange 1) 2 (start first second) turns
+exchange_completes : (first second : ℕ) → Complete (request exchange 1) 2 (start first second) turns
 unfolding state_after request decide able taking answer leaves moved replaced changed joined without_oldest held_by one_way exchange exchanging
 exchange_completes first second = record { runs = (refl, (refl, (refl, (refl, tt)))); ends_all = each }
   where
@@ -33,7 +33,12 @@ pub exchange_ends : (first second : ℕ)
 unfolding state_after request decide able taking answer leaves moved replaced changed joined without_oldest held_by one_way exchange exchanging
 exchange_ends first second = (refl, refl)
 
--- What a driver leaves, of desks that are the start by an equation.
+-- The same of desks that are the start by an equation, and what a driver then leaves.
+pub completes : (desks : List (Desk Partner)) (first second : ℕ)
+    → desks ≡ desk (partner Putting first) None ∷ desk (partner Putting second) None ∷ []
+    → Complete (request exchange 1) 2 (exchange_state (owns desks) (letters desks)) turns
+completes desks first second e = rw e (exchange_completes first second)
+
 pub both_exchanged : {desks : List (Desk Partner)} {first second : ℕ} {told : Bool} (desks' : List (Desk Partner))
     → desks ≡ desk (partner Putting first) None ∷ desk (partner Putting second) None ∷ []
     → WentRound exchange 1 (exchange_state (owns desks) (letters desks)) (exchange_state (owns desks') (letters desks')) told

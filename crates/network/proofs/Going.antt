@@ -25,9 +25,7 @@ going_start f s left {ran} {ended} r e = record {
 
 at_most_one : (a : Answer) → (is_ran a ≤ 1) × (is_ended a ≤ 1)
 at_most_one Answer.Ran = (omega arith, omega arith)
-at_most_one Answer.Waiting = (omega arith, omega arith)
-at_most_one Answer.Ended = (omega arith, omega arith)
-at_most_one Answer.Refused = (omega arith, omega arith)
+at_most_one _ = (omega arith, omega arith)
 
 -- One more request, to board p, answered by a.
 pub going_more : {L S : Type 0} {f f' f'' : Fixed L S} {s t u : State L S} {left left' : ℕ} (left'' : ℕ) {asked asked' : List ℕ}

@@ -1,12 +1,15 @@
 -- How a write to the lists that hold a state shows in the state, and so what a request comes to in terms of the lists.
-use Rattle.std.proofs.Common.{◌≡◌, ℕ, zero, suc, ◌+◌, ◌<◌, ◌≤◌, Bool, true, false, cond, ◌&&◌, eqb, ◌⊎◌, List, [], ◌∷◌, length, get_or, set, sym, refl, ap, ◌∙◌, subst, inl, inr, arith, get_or-set_other, get_or-set_same}
+use Rattle.std.proofs.Common.{◌≡◌, ℕ, ◌+◌, ◌<◌, ◌≤◌, eqb, List, [], ◌∷◌, length, get_or, set, sym, refl, ap, ◌∙◌, subst, arith, sum_by}
 use mathlib.Core.Path.{fun_ext}
-use Rattle.std.proofs.lemmas.Bool.{cases_eq, eq-eqb, ne_eqb, cond-true, cond-false}
+use Rattle.std.proofs.lemmas.Bool.Decides.{nat_tests}
+use Rattle.std.proofs.lemmas.Grind.{common_steps}
+use Rattle.std.proofs.lemmas.List.Sums.{sum_by-set}
+use Rattle.std.proofs.lemmas.Bool.{eq-eqb, cond-true}
 use Rattle.network.specs.Network.{ends, goes_on, puts, takes, State}
 use Rattle.network.specs.Request.{replaced, changed, joined, without_oldest}
 use Rattle.network.specs.Fixed.{Fixed, asks}
 use Rattle.network.specs.Runs.{is_ran}
-use Rattle.network.specs.Slots.{one_way, held_by, added_up}
+use Rattle.network.specs.Slots.{one_way, held_by}
 use Rattle.network.specs.declared.answer.Answer.{Answer}
 use Rattle.network.specs.declared.answer.Answer.TheVariants.{Ran, Waiting, Ended, Refused}
 use Rattle.network.proofs.Rules as rule
@@ -30,48 +33,18 @@ pub record Way (L S C : Type 0) : Type 0 where
 own_set : {S : Type 0} (owns : List S) (p : ℕ) (t idle : S) → p < length owns
     → ◌≡◌ {A = ℕ → S} (λ q. get_or (set owns p t) q idle) (replaced p t (λ q. get_or owns q idle))
 unfolding replaced
-own_set owns p t idle h = fun_ext (λ q. pick q (cases_eq q p))
-  where
-    pick : (q : ℕ) → (q ≡ p) ⊎ (q ≡ p → ⊥) → get_or (set owns p t) q idle ≡ cond (eqb q p) t (get_or owns q idle)
-    pick q (inl e) =
-        ap (λ k. get_or (set owns p t) k idle) e ∙ get_or-set_same owns p t idle h ∙ sym (cond-true (eqb q p) t (get_or owns q idle) (eq-eqb q p e))
-    pick q (inr ne) = get_or-set_other owns p q t idle ne ∙ sym (cond-false (eqb q p) t (get_or owns q idle) (ne_eqb q p ne))
+own_set owns p t idle h = fun_ext (λ q. grind (arith, nat_tests, common_steps))
 
 -- the slot of board q was written, which changes its row by g
-row_at : {L : Type 0} (b : Bool) (g : List L → List L) (old new : List L) → new ≡ g old
-    → cond b new [] ≡ cond (true && b) (g (cond b old [])) (cond b old [])
-row_at true g old new e = e
-row_at false g old new e = refl
-
 row_set : {L C : Type 0} (to : ℕ → ℕ) (letters : C → List L) (empty : C) (slots : List C) (q : ℕ) (v : C) (g : List L → List L)
     → q < length slots → letters v ≡ g (letters (get_or slots q empty))
     → one_way to letters empty (set slots q v) ≡ changed q (to q) g (one_way to letters empty slots)
 unfolding one_way changed
-row_set to letters empty slots q v g h e = fun_ext (λ i. fun_ext (λ j. pick i j (cases_eq i q)))
-  where
-    pick : (i j : ℕ) → (i ≡ q) ⊎ (i ≡ q → ⊥)
-        → cond (eqb j (to i)) (letters (get_or (set slots q v) i empty)) []
-        ≡ cond (eqb i q && eqb j (to q)) (g (cond (eqb j (to i)) (letters (get_or slots i empty)) [])) (cond (eqb j (to i)) (letters (get_or slots i empty)) [])
-    pick i j (inl same) =
-        rw (eq-eqb i q same, same) (ap (λ c. cond (eqb j (to q)) (letters c) []) (get_or-set_same slots q v empty h) ∙ row_at (eqb j (to q)) g (letters (get_or slots q empty)) (letters v) e)
-    pick i j (inr ne) =
-        rw (ne_eqb i q ne) (ap (λ c. cond (eqb j (to i)) (letters c) []) (get_or-set_other slots q i v empty ne))
+row_set to letters empty slots q v g h e = fun_ext (λ i. fun_ext (λ j. grind (arith, nat_tests, common_steps)))
 
 same_rows : {L : Type 0} (p q : ℕ) (row : ℕ → ℕ → List L) → row ≡ changed p q (λ r. r) row
 unfolding changed
-same_rows {L} p q row = fun_ext (λ i. fun_ext (λ j. pick (eqb i p && eqb j q) (row i j)))
-  where
-    pick : (b : Bool) (r : List L) → r ≡ cond b r r
-    pick true r = refl
-    pick false r = refl
-
--- What is added up over the boards, after a write at board p.
-added_up_set : {S : Type 0} (weight : S → ℕ) (xs : List S) (p : ℕ) (t d : S) → p < length xs
-    → added_up weight (set xs p t) + weight (get_or xs p d) ≡ added_up weight xs + weight t
-unfolding added_up
-added_up_set weight [] p t d h = absurd (omega arith)
-added_up_set weight (x ∷ xs) zero t d h = omega arith
-added_up_set weight (x ∷ xs) (suc p) t d h = omega (arith, added_up_set weight xs p t d (omega arith))
+same_rows p q row = fun_ext (λ i. fun_ext (λ j. grind (arith, nat_tests)))
 
 module _ {L S C : Type 0} (way : Way L S C) (owns : List S) (slots : List C) (p : ℕ) where
   held : State L S
@@ -80,7 +53,7 @@ module _ {L S C : Type 0} (way : Way L S C) (owns : List S) (slots : List C) (p 
   -- A request to board p was answered by a, and left the lists owns' and slots'.
   abbrev pub Left : Answer → List S → List C → Type 0
   Left a owns' slots' =
-      Answered way.fixed way.fixed (held_by way.to way.letters way.idle way.empty owns slots) (added_up way.weight owns) p a (held_by way.to way.letters way.idle way.empty owns' slots') (added_up way.weight owns')
+      Answered way.fixed way.fixed (held_by way.to way.letters way.idle way.empty owns slots) (sum_by way.weight owns) p a (held_by way.to way.letters way.idle way.empty owns' slots') (sum_by way.weight owns')
 
   -- the same, under other names of the answer and the lists
   pub told : {a a' : Answer} {owns' owns'' : List S} {slots' slots'' : List C} → Left a owns' slots'
@@ -125,7 +98,7 @@ module _ {L S C : Type 0} (way : Way L S C) (owns : List S) (slots : List C) (p 
           record {
             asked = (λ i. (Ran, record { own = own i; row = rows i })) ∙ sym e;
             same = refl;
-            fewer_left = omega (arith, added_up_set way.weight owns p t way.idle kept, lighter);
+            fewer_left = omega (arith, sum_by-set way.weight owns p t way.idle kept, lighter);
           }
 
       pub ran_alone : (t : S) → way.fixed.network.next p (get_or owns p way.idle) ≡ goes_on t → way.weight t < way.weight (get_or owns p way.idle) → Left Ran (set owns p t) slots

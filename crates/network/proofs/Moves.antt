@@ -1,51 +1,30 @@
 -- A network has the diamond: another board's move leaves what a board can do as it was, and two moves commute.
 use Rattle.std.proofs.Common.{◌≡◌, ℕ, ◌<◌, ◌≤◌, Bool, true, false, cond, ◌&&◌, eqb, ltb, ◌≢◌, ◌⊎◌, List, [], ◌∷◌, ◌++◌, length, sym, refl, ap, ◌∙◌, subst, inl, inr, append-nil, arith}
 use mathlib.Core.Path.{fun_ext}
-use Rattle.std.proofs.lemmas.Bool.{eqb-true, ne_eqb, ltb-true, lt-ltb, and_parts, cond-true, cond-false, cases_Bool}
+use Rattle.std.proofs.lemmas.Bool.Decides.{nat_tests}
+use Rattle.std.proofs.lemmas.Bool.{ltb-true, cases_Bool}
 use Rattle.network.specs.Network.{Step, ends, goes_on, puts, takes, Network, State}
-use Rattle.network.specs.Request.{Move, Decision, absent, finished, waits_for, moves, joined, without_oldest, taking, able, decide, replaced, changed, moved, answer, leaves, request}
+use Rattle.network.specs.Request.{Move, Decision, absent, waits_for, moves, joined, without_oldest, taking, able, decide, replaced, changed, moved, answer, leaves, request}
 use Rattle.network.specs.Runs.{is_ran, WouldRun}
 use Rattle.network.specs.Laws.{Undisturbed}
 use Rattle.network.specs.declared.answer.Answer.TheVariants.{Ran}
 
 -- Two functions of boards, or of pairs of boards, changed at two places.
 
-conds_swap : {X : Type 0} (u v : Bool) (a b c : X) → (u ≡ true → v ≡ true → ⊥) → cond v b (cond u a c) ≡ cond u a (cond v b c)
-conds_swap true true a b c apart = absurd (apart refl refl)
-conds_swap true false a b c apart = refl
-conds_swap false true a b c apart = refl
-conds_swap false false a b c apart = refl
-
 pub replaced_swap : {X : Type 0} (p q : ℕ) (a b : X) (f : ℕ → X) → p ≢ q
     → replaced q b (replaced p a f) ≡ replaced p a (replaced q b f)
 unfolding replaced
-replaced_swap p q a b f ne =
-    fun_ext (λ i. conds_swap (eqb i p) (eqb i q) a b (f i) (λ x y. ne (sym (eqb-true i p x) ∙ eqb-true i q y)))
-
-changes_swap : {X : Type 0} (u v : Bool) (g h : X → X) (c : X) → (u ≡ true → v ≡ true → h (g c) ≡ g (h c))
-    → cond v (h (cond u (g c) c)) (cond u (g c) c) ≡ cond u (g (cond v (h c) c)) (cond v (h c) c)
-changes_swap true true g h c same = same refl refl
-changes_swap true false g h c same = refl
-changes_swap false true g h c same = refl
-changes_swap false false g h c same = refl
+replaced_swap p q a b f ne = fun_ext (λ i. grind (arith, nat_tests))
 
 pub changed_swap : {X : Type 0} (i j k l : ℕ) (g h : X → X) (f : ℕ → ℕ → X)
     → (i ≡ k → j ≡ l → h (g (f i j)) ≡ g (h (f i j)))
     → changed k l h (changed i j g f) ≡ changed i j g (changed k l h f)
 unfolding changed
-changed_swap i j k l g h f same =
-    fun_ext (λ x. fun_ext (λ y. changes_swap (eqb x i && eqb y j) (eqb x k && eqb y l) g h (f x y) (λ u v. at x y (and_parts (eqb x i) (eqb y j) u) (and_parts (eqb x k) (eqb y l) v))))
-  where
-    at : (x y : ℕ) → (eqb x i ≡ true) × (eqb y j ≡ true) → (eqb x k ≡ true) × (eqb y l ≡ true) → h (g (f x y)) ≡ g (h (f x y))
-    at x y u v =
-        let a = eqb-true x i u.0 in
-        let b = eqb-true y j u.1 in
-        let s = same (sym a ∙ eqb-true x k v.0) (sym b ∙ eqb-true y l v.1) in
-        rw (a, b) s
+changed_swap i j k l g h f same = fun_ext (λ x. fun_ext (λ y. grind (arith, nat_tests, same)))
 
 pub replaced_other : {X : Type 0} (p q : ℕ) (a : X) (f : ℕ → X) → q ≢ p → replaced p a f q ≡ f q
 unfolding replaced
-replaced_other p q a f ne = cond-false (eqb q p) a (f q) (ne_eqb q p ne)
+replaced_other p q a f ne = grind (arith, nat_tests)
 
 -- The two letters of a row that a put and a take see are apart where a letter waits.
 join_then_leave : {L : Type 0} (x : L) (row : List L) → row ≢ [] → without_oldest (joined x row) ≡ joined x (without_oldest row)
@@ -95,46 +74,32 @@ shorter (x ∷ row) = omega arith
 no_longer : {L S : Type 0} (row : ℕ → ℕ → List L) (p q y : ℕ) (k : Move L S) → p ≢ q → Shape row p k
     → length (changed k.sender k.receiver k.change row q y) ≤ length (row q y)
 unfolding changed
-no_longer row p q y k ne shape = by_test (eqb q k.sender && eqb y k.receiver) (λ e. eqb-true q k.sender (and_parts (eqb q k.sender) (eqb y k.receiver) e).0) shape
-  where
-    by_test : (b : Bool) → (b ≡ true → q ≡ k.sender) → Shape row p k
-        → length (cond b (k.change (row q y)) (row q y)) ≤ length (row q y)
-    by_test false f shape = omega arith
-    by_test true f (own_row a _ _) = absurd (ne (sym a ∙ sym (f refl)))
-    by_test true f (a_put a _ _) = absurd (ne (sym a ∙ sym (f refl)))
-    by_test true f (a_take _ _ c) = rw c (shorter (row q y))
+no_longer row p q y k ne (own_row a _ _) = grind (arith, nat_tests)
+no_longer row p q y k ne (a_put a _ _) = grind (arith, nat_tests)
+no_longer row p q y k ne (a_take _ _ c) = rw c (grind (arith, nat_tests, shorter))
 
 still_begins : {L S : Type 0} (row : ℕ → ℕ → List L) (p q y : ℕ) (k : Move L S) → p ≢ q → Shape row p k
     → (more : List L) × (changed k.sender k.receiver k.change row y q ≡ row y q ++ more)
 unfolding changed joined
-still_begins row p q y k ne shape = by_test (eqb y k.sender && eqb q k.receiver) (λ e. eqb-true q k.receiver (and_parts (eqb y k.sender) (eqb q k.receiver) e).1) shape
+still_begins row p q y k ne (own_row _ a _) = ([], grind (arith, nat_tests, append-nil))
+still_begins row p q y k ne (a_put _ x c) = pick (cases_Bool (eqb y k.sender && eqb q k.receiver))
   where
-    by_test : (b : Bool) → (b ≡ true → q ≡ k.receiver) → Shape row p k
-        → (more : List _) × (cond b (k.change (row y q)) (row y q) ≡ row y q ++ more)
-    by_test false f shape = ([], sym (append-nil (row y q)))
-    by_test true f (own_row _ a _) = absurd (ne (sym a ∙ sym (f refl)))
-    by_test true f (a_put _ x c) = (x ∷ [], ap (λ g. g (row y q)) c)
-    by_test true f (a_take a _ _) = absurd (ne (sym a ∙ sym (f refl)))
+    pick : (eqb y k.sender && eqb q k.receiver ≡ true) ⊎ (eqb y k.sender && eqb q k.receiver ≡ false)
+        → (more : List _) × (cond (eqb y k.sender && eqb q k.receiver) (k.change (row y q)) (row y q) ≡ row y q ++ more)
+    pick (inl t) = (x ∷ [], rw (t, c) refl)
+    pick (inr f) = ([], rw f (sym (append-nil (row y q))))
+still_begins row p q y k ne (a_take a _ _) = ([], grind (arith, nat_tests, append-nil))
 
 -- So a board that can move still can, by the same move; and it can where rows may be deeper.
 
-waits_is_no_move : {L S : Type 0} (y : ℕ) (m : Move L S) → waits_for y ≡ moves m → ⊥
-waits_is_no_move y m h = let z : ◌≡◌ {A = ℕ} 0 1 = cc in omega arith
-
 put_keeps : {L S : Type 0} (long short depth deeper y : ℕ) (k m : Move L S) → short ≤ long → depth ≤ deeper
     → cond (ltb long depth) (moves k) (waits_for y) ≡ moves m → cond (ltb short deeper) (moves k) (waits_for y) ≡ moves m
-put_keeps long short depth deeper y k m le deep h = pick (cases_Bool (ltb long depth))
-  where
-    pick : (ltb long depth ≡ true) ⊎ (ltb long depth ≡ false) → cond (ltb short deeper) (moves k) (waits_for y) ≡ moves m
-    pick (inl t) =
-        cond-true (ltb short deeper) (moves k) (waits_for y) (lt-ltb short deeper (omega (arith, ltb-true long depth t)))
-        ∙ sym (cond-true (ltb long depth) (moves k) (waits_for y) t) ∙ h
-    pick (inr f) = absurd (waits_is_no_move y m (sym (cond-false (ltb long depth) (moves k) (waits_for y) f) ∙ h))
+put_keeps long short depth deeper y k m le deep h = grind (arith, nat_tests)
 
 take_keeps : {L S : Type 0} (q y : ℕ) (go : L → S) (m : Move L S) (row more : List L)
     → taking q y go row ≡ moves m → taking q y go (row ++ more) ≡ moves m
 unfolding taking
-take_keeps q y go m [] more h = absurd (waits_is_no_move y m h)
+take_keeps q y go m [] more h = cc
 take_keeps q y go m (x ∷ row) more h = h
 
 able_keeps : {L S : Type 0} (depth deeper : ℕ) (row row' : ℕ → ℕ → List L) (q : ℕ) (step : Step L S) (m : Move L S) → depth ≤ deeper
@@ -142,12 +107,11 @@ able_keeps : {L S : Type 0} (depth deeper : ℕ) (row row' : ℕ → ℕ → Lis
     → ((y : ℕ) → (more : List L) × (row' y q ≡ row y q ++ more))
     → able depth row q step ≡ moves m → able deeper row' q step ≡ moves m
 unfolding able
-able_keeps depth deeper row row' q ends m deep shorts longs h = h
-able_keeps depth deeper row row' q (goes_on t) m deep shorts longs h = h
 able_keeps depth deeper row row' q (puts y x t) m deep shorts longs h =
     put_keeps (length (row q y)) (length (row' q y)) depth deeper y (record { after = t; sender = q; receiver = y; change = joined x }) m (shorts y) deep h
 able_keeps depth deeper row row' q (takes y go) m deep shorts longs h =
     ap (taking q y go) (longs y).1 ∙ take_keeps q y go m (row y q) (longs y).0 h
+able_keeps depth deeper row row' q _ m deep shorts longs h = h
 
 within : {L S : Type 0} (b : Bool) (a a' : Decision L S) (m : Move L S) → (a ≡ moves m → a' ≡ moves m)
     → cond b a absent ≡ moves m → cond b a' absent ≡ moves m
@@ -169,10 +133,8 @@ decide_deeper net depth deeper s p m deep =
 -- A move that was decided on has one of the three shapes.
 
 abbrev Shaped : {L S : Type 0} → (ℕ → ℕ → List L) → ℕ → Decision L S → Type 0
-Shaped row p absent = Unit {0}
-Shaped row p finished = Unit {0}
-Shaped row p (waits_for q) = Unit {0}
 Shaped row p (moves m) = Shape row p m
+Shaped row p _ = Unit {0}
 
 put_shaped : {L S : Type 0} (row : ℕ → ℕ → List L) (p q : ℕ) (x : L) (t : S) (b : Bool)
     → Shaped row p (cond b (moves (record { after = t; sender = p; receiver = q; change = joined x })) (waits_for q))
@@ -182,7 +144,7 @@ put_shaped row p q x t false = tt
 take_shaped : {L S : Type 0} (row : ℕ → ℕ → List L) (p q : ℕ) (go : L → S) (r : List L) → row q p ≡ r → Shaped row p (taking p q go r)
 unfolding taking
 take_shaped row p q go [] e = tt
-take_shaped row p q go (x ∷ r) e = a_take refl (λ z. let clash : ◌≡◌ {A = ℕ} 0 1 = cc in omega arith) refl
+take_shaped row p q go (x ∷ r) e = a_take refl (λ z. cc) refl
 
 able_shaped : {L S : Type 0} (depth : ℕ) (row : ℕ → ℕ → List L) (p : ℕ) (step : Step L S) → Shaped row p (able depth row p step)
 unfolding able
@@ -205,10 +167,8 @@ decided_shape net depth s p m e =
 
 ran_by : {L S : Type 0} (d : Decision L S) → answer d ≡ Ran → (m : Move L S) × (d ≡ moves m)
 unfolding answer
-ran_by absent h = absurd (let z : ◌≡◌ {A = ℕ} 0 1 = cc in omega arith)
-ran_by finished h = absurd (let z : ◌≡◌ {A = ℕ} 0 1 = cc in omega arith)
-ran_by (waits_for q) h = absurd (let z : ◌≡◌ {A = ℕ} 0 1 = cc in omega arith)
 ran_by (moves m) h = (m, refl)
+ran_by _ h = cc
 
 pub would_run_by : {L S : Type 0} (net : Network L S) (depth : ℕ) (s : State L S) (p : ℕ) → WouldRun (request net depth) s p
     → (m : Move L S) × (decide net depth s p ≡ moves m)
@@ -222,10 +182,8 @@ request_of_move net depth s p m e = ap (λ d. (answer d, leaves p d s)) e
 
 stays : {L S : Type 0} (p : ℕ) (s : State L S) (d : Decision L S) → is_ran (answer d) ≡ 0 → leaves p d s ≡ s
 unfolding leaves answer
-stays p s absent h = refl
-stays p s finished h = refl
-stays p s (waits_for q) h = refl
 stays p s (moves m) h = absurd (omega (arith, h))
+stays p s _ h = refl
 
 pub request_stays : {L S : Type 0} (net : Network L S) (depth : ℕ) (s : State L S) (p : ℕ)
     → is_ran (request net depth s p).0 ≡ 0 → (request net depth s p).1 ≡ s
@@ -235,7 +193,7 @@ request_stays net depth s p h = stays p s (decide net depth s p) h
 inside_by : {L S : Type 0} (p n : ℕ) (a : Decision L S) (b : Bool) → ltb p n ≡ b → answer (cond b a absent) ≡ Ran → p < n
 unfolding answer
 inside_by p n a true e h = ltb-true p n e
-inside_by p n a false e h = absurd (let z : ◌≡◌ {A = ℕ} 0 1 = cc in omega arith)
+inside_by p n a false e h = cc
 
 pub request_inside : {L S : Type 0} (net : Network L S) (depth : ℕ) (s : State L S) (p : ℕ)
     → WouldRun (request net depth) s p → p < net.boards

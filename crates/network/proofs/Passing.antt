@@ -1,7 +1,7 @@
 -- The cases of a request to the relay.
-use Rattle.std.proofs.Common.{◌≡◌, ℕ, ◌-◌, ◌<◌, ◌≤◌, eqb, ◌≢◌, List, length, get_or, set, Some, None, Option, ap, ◌∙◌, arith}
-use Rattle.std.proofs.lemmas.Bool.{eq-eqb, ne_eqb, cond-true, cond-false}
-use Rattle.network.specs.Network.{goes_on, puts, takes}
+use Rattle.std.proofs.Common.{◌≡◌, ℕ, ◌-◌, ◌<◌, ◌≤◌, ◌≢◌, List, length, get_or, set, Some, None, Option, refl, arith}
+use Rattle.std.proofs.lemmas.Bool.Decides.{nat_tests}
+use Rattle.network.specs.Network.{puts, takes}
 use Rattle.network.specs.Relaying.{plus, after, relaying, relay_of, station_left}
 use Rattle.network.specs.Desks.{desk}
 use Rattle.network.specs.declared.answer.Answer.{Answer}
@@ -22,26 +22,25 @@ module _ (count : ℕ) (desks : List (Desk Station)) (p : ℕ) where
   abbrev pub Left : Answer → List (Desk Station) → Type 0
   Left = at_desks.Left (relay count) desks p
 
+  pub told : {a : Answer} {desks' desks'' : List (Desk Station)} → Left a desks' → desks'' ≡ desks' → Left a desks''
+  told = at_desks.told (relay count) desks p
+
   pub refused : count ≤ p → Left Refused desks
   unfolding relay_of
   refused outside = at_desks.refused (relay count) desks p outside
 
   module _ (inside : p < count) where
-    next_is : (s : Station) → (at p).own ≡ s → (relay_of count).next p (at p).own ≡ relaying count p s
-    unfolding relay_of
-    next_is s e = ap (relaying count p) e
-
     takes_next : (v : ℕ) → (at p).own ≡ Adds v → p ≢ 0 → (relay_of count).next p (at p).own ≡ takes (p - 1) (λ x. Holds (plus v x))
-    unfolding relaying
-    takes_next v e later = next_is (Adds v) e ∙ cond-false (eqb p 0) (goes_on (Holds v)) _ (ne_eqb p 0 later)
+    unfolding relay_of relaying
+    takes_next v e later = rw e (grind (arith, nat_tests))
 
     puts_next : (s : ℕ) → (at p).own ≡ Holds s → after p ≢ count → (relay_of count).next p (at p).own ≡ puts (after p) s (Done s)
-    unfolding relaying
-    puts_next s e more = next_is (Holds s) e ∙ cond-false (eqb (after p) count) (goes_on (Done s)) _ (ne_eqb (after p) count more)
+    unfolding relay_of relaying
+    puts_next s e more = rw e (grind (arith, nat_tests))
 
     pub ended : (s : ℕ) → (at p).own ≡ Done s → Left Ended desks
     unfolding relay_of relaying
-    ended s e = at_desks.ended (relay count) desks p inside (next_is (Done s) e)
+    ended s e = at_desks.ended (relay count) desks p inside (rw e refl)
 
     pub put_waits : (s x : ℕ) → (at p).own ≡ Holds s → after p ≢ count → (at p).letter ≡ Some x → Left Waiting desks
     unfolding relay_of
@@ -57,12 +56,12 @@ module _ (count : ℕ) (desks : List (Desk Station)) (p : ℕ) where
       pub starts : (v : ℕ) → (at p).own ≡ Adds v → p ≡ 0 → Left Ran (set desks p (desk (Holds v) (at p).letter))
       unfolding relay_of relaying station_left
       starts v e first =
-          at_desks.ran_alone (relay count) desks p inside here (Holds v) (next_is (Adds v) e ∙ cond-true (eqb p 0) (goes_on (Holds v)) _ (eq-eqb p 0 first)) (rw e (omega arith))
+          at_desks.ran_alone (relay count) desks p inside here (Holds v) (rw e (grind (arith, nat_tests))) (rw e (omega arith))
 
       pub keeps : (s : ℕ) → (at p).own ≡ Holds s → after p ≡ count → Left Ran (set desks p (desk (Done s) (at p).letter))
       unfolding relay_of relaying station_left
       keeps s e last =
-          at_desks.ran_alone (relay count) desks p inside here (Done s) (next_is (Holds s) e ∙ cond-true (eqb (after p) count) (goes_on (Done s)) _ (eq-eqb (after p) count last)) (rw e (omega arith))
+          at_desks.ran_alone (relay count) desks p inside here (Done s) (rw e (grind (arith, nat_tests))) (rw e (omega arith))
 
       pub take_ran : (v x : ℕ) (left : Option ℕ) → (at p).own ≡ Adds v → p ≢ 0 → (at (p - 1)).letter ≡ Some x → left ≡ None
           → (let taken : List (Desk Station) = set desks (p - 1) (desk (at (p - 1)).own left) in Left Ran (set taken p (desk (Holds (plus v x)) (get_or taken p (desk (Adds 0) None)).letter)))

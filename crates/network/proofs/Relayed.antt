@@ -1,11 +1,11 @@
 -- The relay's complete list, for every number of stations, and where it ends.
-use Rattle.std.proofs.Common.{◌≡◌, ℕ, zero, suc, ◌+◌, ◌-◌, ◌<◌, ◌≤◌, Bool, true, false, cond, ◌&&◌, eqb, ltb, ◌≢◌, ◌⊎◌, List, [], ◌∷◌, ◌++◌, length, get_or, set, replicate, Some, None, Option, sym, refl, ap, ◌∙◌, subst, inl, inr, add-one, arith, get_or-set_other, get_or-set_same, MatchOption}
+use Rattle.std.proofs.Common.{◌≡◌, ℕ, zero, suc, ◌+◌, ◌-◌, ◌<◌, ◌≤◌, Bool, cond, ◌&&◌, eqb, ltb, ◌≢◌, ◌⊎◌, List, [], ◌∷◌, ◌++◌, length, get_or, set, replicate, Some, None, Option, sym, ap, ◌∙◌, subst, inl, inr, add-one, arith, MatchOption}
 use mathlib.Core.Path.{fun_ext}
 use lib.ListN.{get_or-replicate, get_or-eq_default}
-use Rattle.std.specs.Option.{option_to_list}
-use Rattle.std.proofs.lemmas.Bool.{cases_lt, cases_eq, eq-eqb, ne_eqb, lt-ltb, le-ltb, eqb-true, and_parts, both_ways, cond-true, cond-false}
+use Rattle.std.proofs.lemmas.Bool.{cases_eq}
 use Rattle.std.proofs.lemmas.Bool.Decides.{nat_tests}
-use Rattle.network.specs.Network.{goes_on, State}
+use Rattle.std.proofs.lemmas.Grind.{common_steps}
+use Rattle.network.specs.Network.{State}
 use Rattle.network.specs.Request.{joined, without_oldest, replaced, changed, request}
 use Rattle.network.specs.Runs.{Asked, state_after, AllRan, Complete}
 use Rattle.network.specs.Relaying.{plus, after, relaying, relay_of, relay_state, running_sum, twice_in_turn, MadeOf, Relayed}
@@ -39,37 +39,24 @@ module _ (n : ℕ) (v : ℕ → ℕ) (s : State ℕ Station) (adds : (p : ℕ) �
   none_ended : s ≡ ended_to 0
   unfolding ended_to
   none_ended =
-      let own : s.own ≡ (ended_to 0).own = fun_ext (λ p. sym (cond-false (ltb p 0) (Done (running_sum v p)) (s.own p) (le-ltb p 0 (omega arith)))) in
-      let row : s.row ≡ (ended_to 0).row = fun_ext (λ i. fun_ext (λ j. empty i j ∙ sym (cond-false (eqb (i + 1) 0 && (eqb j 0 && ltb 0 n)) (running_sum v i ∷ []) [] (grind (arith, nat_tests))))) in
+      let own : s.own ≡ (ended_to 0).own = fun_ext (λ p. grind (arith, nat_tests)) in
+      let row : s.row ≡ (ended_to 0).row = fun_ext (λ i. fun_ext (λ j. grind (arith, nat_tests, empty))) in
       λ i. record { own = own i; row = row i }
 
   module _ (k : ℕ) (inside : k < n) where
     still_adds : (ended_to k).own k ≡ Adds (v k)
     unfolding ended_to
-    still_adds = cond-false (ltb k k) (Done (running_sum v k)) (s.own k) (le-ltb k k (omega arith)) ∙ adds k inside
+    still_adds = grind (arith, nat_tests, adds)
 
     -- station k takes: no letter is under way then
     no_letter_left : (q : ℕ) → q + 1 ≡ k → changed q k without_oldest (ended_to k).row ≡ (λ i j. [])
     unfolding ended_to changed without_oldest
-    no_letter_left q e = fun_ext (λ i. fun_ext (λ j. pick i (eqb i q && eqb j k) (eqb (i + 1) k && (eqb j k && ltb k n)) (grind (arith, nat_tests))))
-      where
-        pick : (i : ℕ) (b c : Bool) → (b ≡ false → c ≡ false)
-            → cond b (without_oldest (cond c (running_sum v i ∷ []) [])) (cond c (running_sum v i ∷ []) []) ≡ []
-        pick i true true h = refl
-        pick i true false h = refl
-        pick i false true h = absurd (both_ways true (h refl) refl)
-        pick i false false h = refl
+    no_letter_left q e = fun_ext (λ i. fun_ext (λ j. grind (arith, nat_tests)))
 
     -- or goes on alone, as the first: no letter was
     none_under_way : k ≡ 0 → changed k k (λ r. r) (ended_to k).row ≡ (λ i j. [])
     unfolding ended_to changed
-    none_under_way e = fun_ext (λ i. fun_ext (λ j. pick i (eqb i k && eqb j k) (eqb (i + 1) k && (eqb j k && ltb k n)) (grind (arith, nat_tests))))
-      where
-        pick : (i : ℕ) (b c : Bool) → c ≡ false → cond b (cond c (running_sum v i ∷ []) []) (cond c (running_sum v i ∷ []) []) ≡ []
-        pick i true true h = absurd (both_ways true h refl)
-        pick i true false h = refl
-        pick i false true h = absurd (both_ways true h refl)
-        pick i false false h = refl
+    none_under_way e = fun_ext (λ i. fun_ext (λ j. grind (arith, nat_tests)))
 
     first_sum : k ≡ 0 → v k ≡ running_sum v k
     unfolding running_sum
@@ -89,51 +76,28 @@ module _ (n : ℕ) (v : ℕ → ℕ) (s : State ℕ Station) (adds : (p : ℕ) �
         pick : (k ≡ 0) ⊎ (k ≢ 0) → request (relay_of n) 1 (ended_to k) k ≡ (Ran, holding k)
         pick (inl first) =
             let row = none_under_way first in
-            rule.ran_alone (relay_of n) 1 (ended_to k) k (Holds (v k)) inside (ap (relaying n k) still_adds ∙ cond-true (eqb k 0) (goes_on (Holds (v k))) _ (eq-eqb k 0 first))
+            rule.ran_alone (relay_of n) 1 (ended_to k) k (Holds (v k)) inside (ap (relaying n k) still_adds ∙ grind (arith, nat_tests))
             ∙ (λ i. (Ran, record { own = replaced k (Holds (first_sum first i)) (ended_to k).own; row = row i }))
         pick (inr later) =
             let row = no_letter_left (k - 1) (omega arith) in
-            let there : eqb (k - 1 + 1) k && (eqb k k && ltb k n) ≡ true = grind (arith, nat_tests) in
-            rule.take_ran (relay_of n) 1 (ended_to k) k (k - 1) (λ x. Holds (plus (v k) x)) (running_sum v (k - 1)) [] inside (ap (relaying n k) still_adds ∙ cond-false (eqb k 0) (goes_on (Holds (v k))) _ (ne_eqb k 0 later)) (cond-true (eqb (k - 1 + 1) k && (eqb k k && ltb k n)) (running_sum v (k - 1) ∷ []) [] there)
+            rule.take_ran (relay_of n) 1 (ended_to k) k (k - 1) (λ x. Holds (plus (v k) x)) (running_sum v (k - 1)) [] inside (ap (relaying n k) still_adds ∙ grind (arith, nat_tests)) (grind (arith, nat_tests))
             ∙ (λ i. (Ran, record { own = replaced k (Holds (next_sum later i)) (ended_to k).own; row = row i }))
 
     holds_now : (holding k).own k ≡ Holds (running_sum v k)
     unfolding holding replaced
-    holds_now = cond-true (eqb k k) (Holds (running_sum v k)) _ (eq-eqb k k refl)
+    holds_now = grind (arith, nat_tests)
 
     ends_own : replaced k (Done (running_sum v k)) (holding k).own ≡ (ended_to (k + 1)).own
     unfolding holding replaced ended_to
-    ends_own = fun_ext (λ p. pick p (cases_eq p k))
-      where
-        pick : (p : ℕ) → (p ≡ k) ⊎ (p ≢ k)
-            → cond (eqb p k) (Done (running_sum v k)) (cond (eqb p k) (Holds (running_sum v k)) (cond (ltb p k) (Done (running_sum v p)) (s.own p)))
-            ≡ cond (ltb p (k + 1)) (Done (running_sum v p)) (s.own p)
-        pick p (inl e) =
-            cond-true (eqb p k) _ _ (eq-eqb p k e) ∙ ap (λ x. Done (running_sum v x)) (sym e) ∙ sym (cond-true (ltb p (k + 1)) _ _ (lt-ltb p (k + 1) (omega arith)))
-        pick p (inr ne) =
-            let same : ltb p k ≡ ltb p (k + 1) = grind (arith, nat_tests) in
-            rw (ne_eqb p k ne) (ap (λ b. cond b (Done (running_sum v p)) (s.own p)) same)
+    ends_own = fun_ext (λ p. grind (arith, nat_tests))
 
     last_row : after k ≡ n → changed k k (λ r. r) (holding k).row ≡ (ended_to (k + 1)).row
     unfolding holding changed ended_to
-    last_row e = fun_ext (λ i. fun_ext (λ j. pick i (eqb i k && eqb j k) (eqb (i + 1) (k + 1) && (eqb j (k + 1) && ltb (k + 1) n)) (grind (arith, nat_tests))))
-      where
-        pick : (i : ℕ) (b c : Bool) → c ≡ false → cond {A = List ℕ} b [] [] ≡ cond c (running_sum v i ∷ []) []
-        pick i true true h = absurd (both_ways true h refl)
-        pick i true false h = refl
-        pick i false true h = absurd (both_ways true h refl)
-        pick i false false h = refl
+    last_row e = fun_ext (λ i. fun_ext (λ j. grind (arith, nat_tests)))
 
     next_row : after k ≢ n → changed k (after k) (joined (running_sum v k)) (holding k).row ≡ (ended_to (k + 1)).row
     unfolding holding changed ended_to joined
-    next_row more =
-        fun_ext (λ i. fun_ext (λ j. pick i j (eqb i k && eqb j (k + 1)) (eqb (i + 1) (k + 1) && (eqb j (k + 1) && ltb (k + 1) n)) (grind (arith, nat_tests)) (λ h. sym (eqb-true i k (and_parts (eqb i k) (eqb j (k + 1)) h).0))))
-      where
-        pick : (i j : ℕ) (b c : Bool) → b ≡ c → (b ≡ true → k ≡ i) → cond b (running_sum v k ∷ []) [] ≡ cond c (running_sum v i ∷ []) []
-        pick i j true true h e = ap (λ x. running_sum v x ∷ []) (e refl)
-        pick i j true false h e = absurd (both_ways true h refl)
-        pick i j false true h e = absurd (both_ways true (sym h) refl)
-        pick i j false false h e = refl
+    next_row more = fun_ext (λ i. fun_ext (λ j. grind (arith, nat_tests)))
 
     room : length ((holding k).row k (after k)) < 1
     unfolding holding
@@ -147,11 +111,11 @@ module _ (n : ℕ) (v : ℕ → ℕ) (s : State ℕ Station) (adds : (p : ℕ) �
         pick : (after k ≡ n) ⊎ (after k ≢ n) → request (relay_of n) 1 (holding k) k ≡ (Ran, ended_to (k + 1))
         pick (inl last) =
             let row = last_row last in
-            rule.ran_alone (relay_of n) 1 (holding k) k (Done (running_sum v k)) inside (ap (relaying n k) holds_now ∙ cond-true (eqb (after k) n) (goes_on (Done (running_sum v k))) _ (eq-eqb (after k) n last))
+            rule.ran_alone (relay_of n) 1 (holding k) k (Done (running_sum v k)) inside (ap (relaying n k) holds_now ∙ grind (arith, nat_tests))
             ∙ (λ i. (Ran, record { own = ends_own i; row = row i }))
         pick (inr more) =
             let row = next_row more in
-            rule.put_ran (relay_of n) 1 (holding k) k (after k) (running_sum v k) (Done (running_sum v k)) inside (ap (relaying n k) holds_now ∙ cond-false (eqb (after k) n) (goes_on (Done (running_sum v k))) _ (ne_eqb (after k) n more)) room
+            rule.put_ran (relay_of n) 1 (holding k) k (after k) (running_sum v k) (Done (running_sum v k)) inside (ap (relaying n k) holds_now ∙ grind (arith, nat_tests)) room
             ∙ (λ i. (Ran, record { own = ends_own i; row = row i }))
 
   ask : Asked (State ℕ Station)
@@ -178,7 +142,7 @@ module _ (n : ℕ) (v : ℕ → ℕ) (s : State ℕ Station) (adds : (p : ℕ) �
   pub last_own : (p : ℕ) → p < n → (state_after (request (relay_of n) 1) s (twice_in_turn n)).own p ≡ Done (running_sum v p)
   unfolding ask ended_to
   last_own p inside =
-      ap (λ x. x.own p) (ran_to n (omega arith)).1 ∙ cond-true (ltb p n) (Done (running_sum v p)) (s.own p) (lt-ltb p n inside)
+      ap (λ x. x.own p) (ran_to n (omega arith)).1 ∙ grind (arith, nat_tests)
 
   pub relay_completes : Complete (request (relay_of n) 1) n s (twice_in_turn n)
   unfolding ask relay_of relaying
@@ -194,19 +158,11 @@ abbrev nothing : List (Option ℕ)
 nothing = replicate 8 None
 
 no_letter : (i : ℕ) → get_or nothing i None ≡ None
-no_letter i = pick (cases_lt i 8)
-  where
-    pick : (i < 8) ⊎ (8 ≤ i) → get_or nothing i None ≡ None
-    pick (inl h) = get_or-replicate 8 i None None h
-    pick (inr h) = get_or-eq_default nothing None h
+no_letter i = grind (arith, get_or-replicate, get_or-eq_default)
 
 no_row : (stations : List Station) (i j : ℕ) → (relay_state stations nothing).row i j ≡ []
 unfolding held_by one_way
-no_row stations i j = pick (eqb j (after i)) (no_letter i)
-  where
-    pick : (b : Bool) → get_or nothing i None ≡ None → cond b (option_to_list (get_or nothing i None)) [] ≡ []
-    pick true e = ap option_to_list e
-    pick false e = refl
+no_row stations i j = grind (arith, nat_tests, no_letter)
 
 module _ (values : List ℕ) (count : ℕ) (stations : List Station) (letters : List (Option ℕ)) where
   pub made_of : count ≡ length values → ((p : ℕ) → p < length values → get_or stations p (Adds 0) ≡ Adds (get_or values p 0)) → letters ≡ replicate 8 None
@@ -250,9 +206,4 @@ module _ (values : List ℕ) (count : ℕ) (stations : List Station) (letters : 
 pub one_more_station : (stations : List Station) (values : List ℕ) (p : ℕ) (s : Station) → s ≡ Adds (get_or values p 0)
     → ((k : ℕ) → k < p → get_or stations k (Adds 0) ≡ Adds (get_or values k 0)) → p < length stations
     → (k : ℕ) → k < p + 1 → get_or (set stations p s) k (Adds 0) ≡ Adds (get_or values k 0)
-one_more_station stations values p s e before here k h = pick (cases_eq k p)
-  where
-    pick : (k ≡ p) ⊎ (k ≢ p) → get_or (set stations p s) k (Adds 0) ≡ Adds (get_or values k 0)
-    pick (inl same) =
-        ap (λ x. get_or (set stations p s) x (Adds 0)) same ∙ get_or-set_same stations p s (Adds 0) here ∙ e ∙ ap (λ x. Adds (get_or values x 0)) (sym same)
-    pick (inr ne) = get_or-set_other stations p k s (Adds 0) ne ∙ before k (omega arith)
+one_more_station stations values p s e before here k h = grind (arith, common_steps, before)

@@ -1,8 +1,8 @@
 -- What a request comes to, by the board's next step and the row that the step needs: one rule for each case.
-use Rattle.std.proofs.Common.{◌≡◌, ℕ, ◌<◌, ◌≤◌, ltb, List, [], ◌∷◌, length, ap, ◌∙◌}
-use Rattle.std.proofs.lemmas.Bool.{lt-ltb, le-ltb, cond-true, cond-false}
+use Rattle.std.proofs.Common.{◌≡◌, ℕ, ◌<◌, ◌≤◌, List, [], ◌∷◌, length, ap, ◌∙◌, arith}
+use Rattle.std.proofs.lemmas.Bool.Decides.{nat_tests}
 use Rattle.network.specs.Network.{Step, ends, goes_on, puts, takes, Network, State}
-use Rattle.network.specs.Request.{Decision, absent, finished, waits_for, joined, without_oldest, taking, able, decide, replaced, changed, moved, answer, leaves, request}
+use Rattle.network.specs.Request.{Decision, absent, finished, waits_for, moves, joined, without_oldest, taking, able, decide, replaced, changed, moved, answer, leaves, request}
 use Rattle.network.specs.declared.answer.Answer.TheVariants.{Ran, Waiting, Ended, Refused}
 
 module _ {L S : Type 0} (net : Network L S) (depth : ℕ) (s : State L S) (p : ℕ) where
@@ -13,11 +13,11 @@ module _ {L S : Type 0} (net : Network L S) (depth : ℕ) (s : State L S) (p : �
   by_step : (step : Step L S) → p < net.boards → net.next p (s.own p) ≡ step → decide net depth s p ≡ able depth s.row p step
   unfolding decide
   by_step step inside e =
-      cond-true (ltb p net.boards) _ absent (lt-ltb p net.boards inside) ∙ ap (able depth s.row p) e
+      grind (arith, nat_tests)
 
   pub refused : net.boards ≤ p → request net depth s p ≡ (Refused, s)
   unfolding decide answer leaves
-  refused outside = decided absent (cond-false (ltb p net.boards) _ absent (le-ltb p net.boards outside))
+  refused outside = decided absent (grind (arith, nat_tests))
 
   pub ended : p < net.boards → net.next p (s.own p) ≡ ends → request net depth s p ≡ (Ended, s)
   unfolding able answer leaves
@@ -32,13 +32,13 @@ module _ {L S : Type 0} (net : Network L S) (depth : ℕ) (s : State L S) (p : �
       → request net depth s p ≡ (Waiting, s)
   unfolding able answer leaves
   put_waits q x t inside e full =
-      decided (waits_for q) (by_step (puts q x t) inside e ∙ cond-false (ltb (length (s.row p q)) depth) _ (waits_for q) (le-ltb (length (s.row p q)) depth full))
+      decided (waits_for q) (by_step (puts q x t) inside e ∙ grind (arith, nat_tests))
 
   pub put_ran : (q : ℕ) (x : L) (t : S) → p < net.boards → net.next p (s.own p) ≡ puts q x t → length (s.row p q) < depth
       → request net depth s p ≡ (Ran, record { own = replaced p t s.own; row = changed p q (joined x) s.row })
   unfolding able answer leaves moved
   put_ran q x t inside e room =
-      decided _ (by_step (puts q x t) inside e ∙ cond-true (ltb (length (s.row p q)) depth) _ (waits_for q) (lt-ltb (length (s.row p q)) depth room))
+      decided (moves (record { after = t; sender = p; receiver = q; change = joined x })) (by_step (puts q x t) inside e ∙ grind (arith, nat_tests))
 
   pub take_waits : (q : ℕ) (go : L → S) → p < net.boards → net.next p (s.own p) ≡ takes q go → s.row q p ≡ []
       → request net depth s p ≡ (Waiting, s)

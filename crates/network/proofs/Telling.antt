@@ -1,5 +1,5 @@
 -- When each answer is given.
-use Rattle.std.proofs.Common.{◌≡◌, ℕ, ◌<◌, ◌≤◌, ◌⊎◌, List, [], ◌∷◌, length, refl, ap, inl, inr, arith}
+use Rattle.std.proofs.Common.{◌≡◌, ℕ, ◌<◌, ◌≤◌, ◌⊎◌, List, [], ◌∷◌, length, refl, ap, inl, inr}
 use Rattle.std.proofs.lemmas.Bool.{cases_lt}
 use Rattle.network.specs.Network.{Step, ends, goes_on, puts, takes, Network, State}
 use Rattle.network.specs.Request.{request}
@@ -12,12 +12,7 @@ use Rattle.network.proofs.Rules as rule
 
 not_ran : (a : Answer) → (a ≡ Ran → ⊥) → is_ran a ≡ 0
 not_ran Ran h = absurd (h refl)
-not_ran Waiting h = refl
-not_ran Ended h = refl
-not_ran Refused h = refl
-
-clash : {X : Type 0} → ◌≡◌ {A = ℕ} 0 1 → X
-clash z = absurd (omega arith)
+not_ran _ h = refl
 
 module _ {L S : Type 0} (net : Network L S) (depth : ℕ) (s : State L S) (p : ℕ) where
   said : Answer
@@ -70,21 +65,21 @@ module _ {L S : Type 0} (net : Network L S) (depth : ℕ) (s : State L S) (p : �
     where
       is_refused : Case → (request net depth s p).0 ≡ Refused → net.boards ≤ p
       is_refused (outside o e) h = o
-      is_refused (at_end b e e') h = clash (cc)
-      is_refused (at_row b w e') h = clash (cc)
-      is_refused (can_run e') h = clash (cc)
+      is_refused (at_end b e e') h = cc
+      is_refused (at_row b w e') h = cc
+      is_refused (can_run e') h = cc
 
       is_ended : Case → (request net depth s p).0 ≡ Ended → (p < net.boards) × (net.next p (s.own p) ≡ ends)
-      is_ended (outside o e') h = clash (cc)
+      is_ended (outside o e') h = cc
       is_ended (at_end b e e') h = (b, e)
-      is_ended (at_row b w e') h = clash (cc)
-      is_ended (can_run e') h = clash (cc)
+      is_ended (at_row b w e') h = cc
+      is_ended (can_run e') h = cc
 
       is_waiting : Case → (request net depth s p).0 ≡ Waiting → (p < net.boards) × (RowIsFull net depth s p ⊎ RowIsEmpty net s p)
-      is_waiting (outside o e') h = clash (cc)
-      is_waiting (at_end b e e') h = clash (cc)
+      is_waiting (outside o e') h = cc
+      is_waiting (at_end b e e') h = cc
       is_waiting (at_row b w e') h = (b, w)
-      is_waiting (can_run e') h = clash (cc)
+      is_waiting (can_run e') h = cc
 
 pub waits_only_for_rows : (L S : Type 0) → WaitsOnlyForRows L S
 waits_only_for_rows L S net depth s p = tells_by net depth s p (which net depth s p)

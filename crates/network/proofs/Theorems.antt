@@ -1,11 +1,12 @@
 -- The theorems on networks, from the diamond.
-use Rattle.std.proofs.Common.{◌≡◌, ℕ, ◌≤◌, Bool, true, false, cond, ltb, ◌⊎◌, List, [], ◌∷◌, length, sym, refl, ap, ◌∙◌, subst, inl, inr, arith}
+use Rattle.std.proofs.Common.{◌≡◌, ℕ, ◌≤◌, Bool, true, false, cond, ltb, ◌⊎◌, List, [], ◌∷◌, sym, refl, ap, ◌∙◌, subst, inl, inr, arith}
+use Rattle.std.proofs.lemmas.Bool.Decides.{nat_tests}
 use Rattle.network.specs.Network.{Network, State, Step, ends, goes_on, puts, takes}
-use Rattle.network.specs.Request.{Move, Decision, absent, waits_for, moves, able, answer, decide, request}
+use Rattle.network.specs.Request.{Decision, absent, able, answer, decide, request}
 use Rattle.network.specs.Runs.{Asked, state_after, answers, is_ran, tally, steps_run, WouldRun, HasEnded, AllRan, Complete, Names}
 use Rattle.network.specs.Laws.{Led, OrdersCommute, EveryListCompletes, DeeperRowsSameEnd, QuietRoundIsEnd}
 use Rattle.network.specs.declared.answer.Answer.{Answer}
-use Rattle.network.specs.declared.answer.Answer.TheVariants.{Ran, Waiting, Ended, Refused}
+use Rattle.network.specs.declared.answer.Answer.TheVariants.{Ended}
 use Rattle.network.proofs.Diamond.{ran_not_zero, led_anywhere}
 use Rattle.network.proofs.Moves.{undisturbed, would_run_by, request_of_move, request_stays, request_inside, decide_deeper}
 
@@ -36,17 +37,12 @@ runs_deeper {L} {S} net depth deeper deep (p ∷ list) s runs =
 
 -- A board says Ended whatever the depth.
 
-put_not_ended : {L S : Type 0} (b : Bool) (m : Move L S) (q : ℕ) → answer (cond b (moves m) (waits_for q)) ≡ Ended → ⊥
-unfolding answer
-put_not_ended true m q h = let z : ◌≡◌ {A = ℕ} 0 1 = cc in omega arith
-put_not_ended false m q h = let z : ◌≡◌ {A = ℕ} 0 1 = cc in omega arith
-
 able_ended : {L S : Type 0} (depth deeper : ℕ) (row : ℕ → ℕ → List L) (p : ℕ) (step : Step L S)
     → answer (able depth row p step) ≡ Ended → answer (able deeper row p step) ≡ Ended
-unfolding able
+unfolding able answer
 able_ended depth deeper row p ends h = h
 able_ended depth deeper row p (goes_on t) h = h
-able_ended depth deeper row p (puts q x t) h = absurd (put_not_ended (ltb (length (row p q)) depth) _ q h)
+able_ended depth deeper row p (puts q x t) h = grind (arith, nat_tests)
 able_ended depth deeper row p (takes q go) h = h
 
 within_ended : {L S : Type 0} (b : Bool) (a a' : Decision L S) → (answer a ≡ Ended → answer a' ≡ Ended)
@@ -91,10 +87,8 @@ named_ran {X} ask still (p ∷ round) s q quiet named h =
     pick (inr n) z later = later n
 
 ended_or_not : (a : Answer) → (a ≡ Ended) ⊎ (a ≡ Ended → ⊥)
-ended_or_not Ran = inr (λ h. let z : ◌≡◌ {A = ℕ} 0 1 = cc in omega arith)
-ended_or_not Waiting = inr (λ h. let z : ◌≡◌ {A = ℕ} 0 1 = cc in omega arith)
 ended_or_not Ended = inl refl
-ended_or_not Refused = inr (λ h. let z : ◌≡◌ {A = ℕ} 0 1 = cc in omega arith)
+ended_or_not _ = inr (λ h. cc)
 
 pub quiet_round_is_end : (L S : Type 0) → QuietRoundIsEnd L S
 quiet_round_is_end L S net depth deeper s list deep c requests round names quiet p b = pick (ended_or_not (ask now p).0)

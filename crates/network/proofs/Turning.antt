@@ -1,9 +1,8 @@
 -- The cases of a request to the ring.
-use Rattle.std.proofs.Common.{◌≡◌, ℕ, suc, ◌+◌, ◌-◌, ◌<◌, ◌≤◌, Bool, true, false, eqb, ◌≢◌, List, [], ◌∷◌, length, length-set, get_or, set, sym, refl, ap, ◌∙◌, subst, arith}
+use Rattle.std.proofs.Common.{◌≡◌, ℕ, suc, ◌+◌, ◌-◌, ◌<◌, ◌≤◌, Bool, true, false, ◌≢◌, List, [], ◌∷◌, length, length-set, get_or, set, sym, refl, ap, ◌∙◌, subst, arith}
 use lib.ListN.{length-replicate, replicate-append-replicate}
-use Rattle.std.proofs.lemmas.Bool.{eq-eqb, ne_eqb, cond-true, cond-false}
 use Rattle.std.proofs.lemmas.Bool.Decides.{nat_tests}
-use Rattle.network.specs.Network.{ends, Network, State}
+use Rattle.network.specs.Network.{Network, State}
 use Rattle.network.specs.Drivers.{WentRound}
 use Rattle.network.specs.Request.{joined}
 use Rattle.network.specs.Ringing.{seat, board_after, board_before, ringing, ring_of, so_many, ring_state, seat_left, ring_left}
@@ -56,6 +55,10 @@ module _ (x : Ring) (p : ℕ) where
   Left a seats tokens =
       Answered (way count).fixed (way (length seats)).fixed (ring_state count x.seats.now x.tokens.now) (ring_left x.seats.now) p a (ring_state (length seats) seats tokens) (ring_left seats)
 
+  -- the same, under other names of the lists
+  pub told : {a : Answer} {seats seats' : List Seat} {tokens tokens' : List ℕ} → Left a seats tokens → seats' ≡ seats → tokens' ≡ tokens → Left a seats' tokens'
+  told {a} {seats' = seats'} {tokens = tokens} l e f = subst (Left a seats') (sym f) (subst (λ s. Left a s tokens) (sym e) l)
+
   -- the seat of board p was written
   written : (s : Seat) (tokens : List ℕ) → kept.Left (way count) x.seats.now x.tokens.now p Ran (set x.seats.now p s) tokens → Left Ran (set x.seats.now p s) tokens
   written s tokens l =
@@ -69,11 +72,11 @@ module _ (x : Ring) (p : ℕ) where
     pub ended : at.laps ≡ 0 → Left Ended x.seats.now x.tokens.now
     unfolding ring_of
     ended none =
-        kept.ended (way count) x.seats.now x.tokens.now p inside (cond-true (eqb at.laps 0) ends _ (eq-eqb at.laps 0 none))
+        kept.ended (way count) x.seats.now x.tokens.now p inside (grind (arith, nat_tests))
 
     next_is : (b : Bool) → at.laps ≢ 0 → at.holds ≡ b → (ring_of count).next p at ≡ ringing count p at.laps b
     unfolding ring_of
-    next_is b some e = cond-false (eqb at.laps 0) ends _ (ne_eqb at.laps 0 some) ∙ ap (ringing count p at.laps) e
+    next_is b some e = grind (arith, nat_tests)
 
     pub put_waits : at.laps ≢ 0 → at.holds ≡ true → x.depth ≤ on_way p → Left Waiting x.seats.now x.tokens.now
     unfolding ring_of ringing

@@ -1,8 +1,8 @@
 -- Two boards that exchange their values: each puts its own to the other, then takes the other's and keeps it.
-use Rattle.std.specs.Prelude.{ℕ, ◌-◌, List, None, Option}
+use Rattle.std.specs.Prelude.{ℕ, ◌-◌, List, None, Option, sum_by}
 use Rattle.std.specs.Option.{option_to_list}
 use Rattle.network.specs.Network.{Step, ends, puts, takes, Network, State}
-use Rattle.network.specs.Slots.{held_by, added_up}
+use Rattle.network.specs.Slots.{held_by}
 use Rattle.network.specs.declared.pair.Phase.{Phase}
 use Rattle.network.specs.declared.pair.Phase.TheVariants.{Putting, Taking, Done}
 use Rattle.network.specs.declared.pair.Partner.{Partner}
@@ -37,4 +37,4 @@ abbrev pub partner_left : Partner → ℕ
 partner_left b = phases_left b.phase
 
 abbrev pub exchange_left : List Partner → ℕ
-exchange_left boards = added_up partner_left boards
+exchange_left boards = sum_by partner_left boards

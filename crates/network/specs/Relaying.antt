@@ -1,11 +1,11 @@
 -- A relay: each board takes a sum from the board before, adds its value, and passes the sum to the board after. The first
 -- goes on with its own value alone, and the last keeps the sum.
-use Rattle.std.specs.Prelude.{◌≡◌, ℕ, zero, suc, ◌+◌, ◌-◌, ◌%◌, ◌^◌, ◌<◌, ◌≤◌, cond, ◌⊎◌, List, [], ◌∷◌, ◌++◌, length, replicate, Some, None, Option, ◌==◌, slice_index, slice_index_or}
+use Rattle.std.specs.Prelude.{◌≡◌, ℕ, zero, suc, ◌+◌, ◌-◌, ◌%◌, ◌^◌, ◌<◌, ◌≤◌, cond, ◌⊎◌, List, [], ◌∷◌, ◌++◌, length, replicate, Some, None, Option, ◌==◌, slice_index, slice_index_or, sum_by}
 use Rattle.std.specs.Option.{option_to_list}
 use Rattle.network.specs.Network.{Step, ends, goes_on, puts, takes, Network, State}
 use Rattle.network.specs.Request.{request}
 use Rattle.network.specs.Runs.{Complete}
-use Rattle.network.specs.Slots.{held_by, added_up}
+use Rattle.network.specs.Slots.{held_by}
 use Rattle.network.specs.declared.relay.Station.{Station}
 use Rattle.network.specs.declared.relay.Station.TheVariants.{Adds, Holds, Done}
 
@@ -36,7 +36,7 @@ station_left (Holds s) = 1
 station_left (Done s) = 0
 
 abbrev pub relay_left : List Station → ℕ
-relay_left stations = added_up station_left stations
+relay_left stations = sum_by station_left stations
 
 -- The sum that station p passes on, where v gives each station's value.
 unfoldable pub running_sum : (ℕ → ℕ) → ℕ → ℕ

@@ -68,10 +68,8 @@ answer (waits_for q) = Waiting
 answer (moves m) = Ran
 
 unfoldable pub leaves : {L S : Type 0} → ℕ → Decision L S → State L S → State L S
-leaves p absent s = s
-leaves p finished s = s
-leaves p (waits_for q) s = s
 leaves p (moves m) s = moved p m s
+leaves p _ s = s
 
 -- A request to board p at a depth: its answer, and the state that it leaves.
 unfoldable pub request : {L S : Type 0} → Network L S → ℕ → State L S → ℕ → Answer × State L S

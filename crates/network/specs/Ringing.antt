@@ -1,9 +1,9 @@
 -- A ring: each board puts tokens to the board after and takes them from the board before, the last board and the first
 -- being neighbours. A token says nothing but that it is there.
-use Rattle.std.specs.Prelude.{◌≡◌, ℕ, ◌+◌, ◌-◌, ◌*◌, Bool, true, false, cond, List, length, replicate, Some, None, Option, ◌==◌, ◌≢◌}
+use Rattle.std.specs.Prelude.{◌≡◌, ℕ, ◌+◌, ◌-◌, ◌*◌, Bool, true, false, cond, List, length, replicate, Some, None, Option, ◌==◌, ◌≢◌, sum_by}
 use Rattle.network.specs.Drivers.{WentRound}
 use Rattle.network.specs.Network.{Step, ends, puts, takes, Network, State}
-use Rattle.network.specs.Slots.{held_by, added_up}
+use Rattle.network.specs.Slots.{held_by}
 use Rattle.network.specs.declared.ring.Seat.{Seat}
 
 abbrev pub seat : ℕ → Bool → Seat
@@ -37,7 +37,7 @@ abbrev pub seat_left : Seat → ℕ
 seat_left s = 2 * s.laps - cond s.holds 1 0
 
 abbrev pub ring_left : List Seat → ℕ
-ring_left seats = added_up seat_left seats
+ring_left seats = sum_by seat_left seats
 
 -- Boards were driven round from seats and tokens: without an answer where these differ in number, and then untouched;
 -- otherwise as a driver of the ring that they are.

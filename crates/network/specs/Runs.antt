@@ -2,7 +2,7 @@
 -- thing, by `request net depth`.
 use Rattle.std.specs.Prelude.{◌≡◌, ℕ, zero, suc, ◌+◌, ◌<◌, ◌⊎◌, List, [], ◌∷◌, ◌++◌}
 use Rattle.network.specs.declared.answer.Answer.{Answer}
-use Rattle.network.specs.declared.answer.Answer.TheVariants.{Ran, Waiting, Ended, Refused}
+use Rattle.network.specs.declared.answer.Answer.TheVariants.{Ran, Ended}
 
 -- What answers requests: by a state and a board, the answer and the state that is left.
 abbrev pub Asked : Type 0 → Type 0
@@ -24,15 +24,11 @@ tally one (a ∷ rest) = one a + tally one rest
 
 abbrev pub is_ran : Answer → ℕ
 is_ran Ran = 1
-is_ran Waiting = 0
-is_ran Ended = 0
-is_ran Refused = 0
+is_ran _ = 0
 
 abbrev pub is_ended : Answer → ℕ
-is_ended Ran = 0
-is_ended Waiting = 0
 is_ended Ended = 1
-is_ended Refused = 0
+is_ended _ = 0
 
 -- The steps that a list of requests runs.
 abbrev pub steps_run : {X : Type 0} → Asked X → X → List ℕ → ℕ

@@ -1,6 +1,6 @@
 -- How running code keeps a state of a network in which every board puts to one board only: a list with each board's own
 -- state, and a list with what is on the way from each board.
-use Rattle.std.specs.Prelude.{ℕ, ◌+◌, cond, List, [], ◌∷◌, ◌==◌, slice_index_or}
+use Rattle.std.specs.Prelude.{ℕ, cond, List, [], ◌==◌, slice_index_or}
 use Rattle.network.specs.Network.{State}
 
 -- The row from board i to board j: where j is the board that i puts to, the letters that i's slot stands for.
@@ -11,8 +11,3 @@ one_way to letters empty slots i j = cond (j == to i) (letters (slice_index_or s
 unfoldable pub held_by : {L S C : Type 0} → (ℕ → ℕ) → (C → List L) → S → C → List S → List C → State L S
 held_by to letters idle empty owns slots =
     record { own = λ p. slice_index_or owns p idle; row = one_way to letters empty slots }
-
--- A number for each board, added up: as the steps that are left.
-unfoldable pub added_up : {S : Type 0} → (S → ℕ) → List S → ℕ
-added_up weight [] = 0
-added_up weight (x ∷ xs) = weight x + added_up weight xs

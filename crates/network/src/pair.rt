@@ -43,24 +43,14 @@ impl Pair {
         ensures desks { result.desks ≡ desk (partner Putting first) None ∷ desk (partner Putting second) None ∷ [] }
         ensures complete { Complete (request exchange 1) 2 (exchange_state (owns result.desks) (letters result.desks)) (0 ∷ 1 ∷ 0 ∷ 1 ∷ []) }
     {
-        let phase = Phase::Putting;
+        let start = |value| {
+            Desk::new(Partner {
+                phase: Phase::Putting,
+                value,
+            })
+        };
         Pair {
-            desks: [
-                Desk {
-                    own: Partner {
-                        phase,
-                        value: first,
-                    },
-                    letter: None,
-                },
-                Desk {
-                    own: Partner {
-                        phase,
-                        value: second,
-                    },
-                    letter: None,
-                },
-            ],
+            desks: [start(first), start(second)],
         }
     }
 }

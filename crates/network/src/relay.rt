@@ -37,10 +37,7 @@ impl Relay {
         if values.len() > 8 {
             return None;
         }
-        let mut desks = [Desk {
-            own: Station::Adds(0),
-            letter: None,
-        }; 8];
+        let mut desks = [Desk::new(Station::Adds(0)); 8];
         // Kept: an index, since of what a loop over `iter_mut().zip(..)` wrote a proof knows nothing.
         for (board, value) in values.iter().enumerate() {
             desks[board].own = Station::Adds(*value);

@@ -1,5 +1,5 @@
 use Rattle.std.proofs.Common.{arith, rules}
-use Rattle.network.proofs.Passing.{refused, ended, take_waits, put_waits, starts, keeps, take_ran, put_ran}
+use Rattle.network.proofs.Passing.{told, refused, ended, take_waits, put_waits, starts, keeps, take_ran, put_ran}
 use Rattle.network.proofs.relay.RelayBoards.request.Goals as goal
 
 pub returns-then-board-self : goal.returns-then-board-self
@@ -10,7 +10,8 @@ returns-then-board-self c =
 pub returns-in-Adds-default : goal.returns-in-Adds-default
 returns-in-Adds-default c =
     let x = c.args.self.now in
-    starts x.count x.desks c.args.board (omega arith) (omega arith) c.in-Adds-default.value (search rules) (omega arith)
+    let done = starts x.count x.desks c.args.board (omega arith) (omega arith) c.in-Adds-default.value (search rules) (omega arith) in
+    told x.count x.desks c.args.board done (search rules)
 
 pub returns-in_default : goal.returns-in_default
 returns-in_default c =
@@ -20,12 +21,14 @@ returns-in_default c =
 pub returns-in-Some : goal.returns-in-Some
 returns-in-Some c =
     let x = c.args.self.now in
-    take_ran x.count x.desks c.args.board (omega arith) (omega arith) c.in-Adds-default.value c.in-Some.sum c.take.new.self (search rules) (omega arith) (search rules) (search rules)
+    let done = take_ran x.count x.desks c.args.board (omega arith) (omega arith) c.in-Adds-default.value c.in-Some.sum c.take.new.self (search rules) (omega arith) (search rules) (search rules) in
+    told x.count x.desks c.args.board done (search rules)
 
 pub returns-in-Holds-default : goal.returns-in-Holds-default
 returns-in-Holds-default c =
     let x = c.args.self.now in
-    keeps x.count x.desks c.args.board (omega arith) (omega arith) c.in-Holds-default.sum (search rules) (omega arith)
+    let done = keeps x.count x.desks c.args.board (omega arith) (omega arith) c.in-Holds-default.sum (search rules) (omega arith) in
+    told x.count x.desks c.args.board done (search rules)
 
 pub returns-in-Holds-Some : goal.returns-in-Holds-Some
 returns-in-Holds-Some c =
@@ -35,7 +38,8 @@ returns-in-Holds-Some c =
 pub returns-in-Holds-None : goal.returns-in-Holds-None
 returns-in-Holds-None c =
     let x = c.args.self.now in
-    put_ran x.count x.desks c.args.board (omega arith) (omega arith) c.in-Holds-default.sum (search rules) (omega arith) (search rules)
+    let done = put_ran x.count x.desks c.args.board (omega arith) (omega arith) c.in-Holds-default.sum (search rules) (omega arith) (search rules) in
+    told x.count x.desks c.args.board done (search rules)
 
 pub returns-in-Done-default : goal.returns-in-Done-default
 returns-in-Done-default c =

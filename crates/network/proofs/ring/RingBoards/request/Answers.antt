@@ -1,5 +1,5 @@
 use Rattle.std.proofs.Common.{arith, rules}
-use Rattle.network.proofs.Turning.{refused, ended, put_waits, take_waits, put_ran, take_ran}
+use Rattle.network.proofs.Turning.{told, refused, ended, put_waits, take_waits, put_ran, take_ran}
 use Rattle.network.proofs.ring.RingBoards.request.Goals as goal
 
 pub returns-then-board-self : goal.returns-then-board-self
@@ -14,7 +14,8 @@ returns-then-self-board c =
 
 pub returns-else-self-board : goal.returns-else-self-board
 returns-else-self-board c =
-    put_ran c.args.self.now c.args.board (omega arith) (search rules) (search rules) (omega arith)
+    let done = put_ran c.args.self.now c.args.board (omega arith) (search rules) (search rules) (omega arith) in
+    told c.args.self.now c.args.board done (search rules) (search rules)
 
 pub returns-in_default : goal.returns-in_default
 returns-in_default c =
@@ -22,4 +23,5 @@ returns-in_default c =
 
 pub returns-in-Some : goal.returns-in-Some
 returns-in-Some c =
-    take_ran c.args.self.now c.args.board (omega arith) c.before-from.result c.before-from.ensures c.in-Some.rest (search rules) (search rules) (search rules) (search rules)
+    let done = take_ran c.args.self.now c.args.board (omega arith) c.before-from.result c.before-from.ensures c.in-Some.rest (search rules) (search rules) (search rules) (search rules) in
+    told c.args.self.now c.args.board done (search rules) (search rules)
