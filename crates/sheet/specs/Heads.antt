@@ -1,5 +1,5 @@
 -- What a `stmt` line says, as the code holds it. Assumes nothing.
-use Rattle.sheet.specs.declared.verdicts.Heading.{Heading}
+use Rattle.sheet.specs.declared.heading.Heading.{Heading}
 use Rattle.sheet.specs.Verdicts.{Head}
 
 abbrev pub headed : Heading → Head

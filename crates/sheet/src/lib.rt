@@ -2,7 +2,9 @@
 #![tactic(auto)]
 
 mod forms;
+mod heading;
 mod lines;
 pub mod reader;
 mod rules;
+mod times;
 mod verdicts;

@@ -1,21 +1,24 @@
 // The lines of a sheet, one after the other.
-ghost use Rattle.std.specs.Prelude.{◌≡◌, ℕ, ◌≤◌, false, List, [], ◌∷◌, map, IfOk, vec_items, codes};
+ghost use Rattle.std.specs.Prelude.{◌≡◌, ℕ, false, List, [], ◌∷◌, map, vec_items, codes};
 ghost use Rattle.tokens.specs.declared.extent.FieldKind.TheVariants.{Number};
 ghost use Rattle.tokens.specs.Views.{before};
 ghost use Rattle.sheet.specs.Forms.{grid_form, array_form, stmt_form, put_form, read_form};
-ghost use Rattle.sheet.specs.Verdicts.{Short, grid_of, array_of, head_of, put_of, read_of, count_of};
+ghost use Rattle.sheet.specs.Verdicts.{grid_of, array_of, head_of, put_of, read_of, count_of};
 ghost use Rattle.sheet.specs.Answered.{lost, sheet_answer};
 ghost use Rattle.sheet.specs.Lines.{line_by, times, statement_of};
 ghost use Rattle.sheet.specs.Heads.{headed};
 ghost use Rattle.nest.specs.Views.{said, said_all};
 
-use crate::forms::{array_fields, count_field, grid_fields, put_fields, read_fields, stmt_fields};
+use crate::forms::read_fields;
+use crate::heading::Heading;
 use crate::rules::ranged;
-use crate::verdicts::{Heading, array_of, grid_of, heading_of, put_of, read_of};
+use crate::times::times;
+use crate::verdicts::{array_of, grid_of, heading_of, put_of, read_of};
 use nest::fault::SheetFault;
 use nest::terms::{Access, Array, Grid, ReadTerm, Statement};
 use std::alloc::Global;
 use tokens::cursor::Cursor;
+use tokens::extent::FieldKind::{Map, Mode, Number, Signed, Variable};
 
 // A line with one number, from low to high.
 pub(crate) fn count_line(
@@ -26,54 +29,58 @@ pub(crate) fn count_line(
 ) -> Result<usize, SheetFault>
     ensures { sheet_answer (λ v. v) result cursor.new ≡ line_by (record { key = key.entry.now; kinds = Number ∷ [] }) (count_of low high) (before cursor.old) }
 {
-    let count = count_field(cursor, key)?;
-    Ok(ranged(count, low, high)?)
+    let mut fields = [cursor.key(key)?];
+    read_fields(cursor, &[Number], &mut fields)?;
+    Ok(ranged(fields[0], low, high)?)
 }
 
 pub(crate) fn grid_line(cursor: &mut Cursor) -> Result<Grid, SheetFault>
     ensures { sheet_answer (λ v. v) result cursor.new ≡ line_by grid_form grid_of (before cursor.old) }
 {
-    let fields = grid_fields(cursor)?;
+    let mut fields = [cursor.key(b"grid")?; 2];
+    read_fields(cursor, &[Number, Number], &mut fields)?;
     grid_of(fields)
 }
 
-pub(crate) fn array_line(cursor: &mut Cursor) -> Result<Array, SheetFault>
+fn array_line(cursor: &mut Cursor) -> Result<Array, SheetFault>
     ensures { sheet_answer (λ v. v) result cursor.new ≡ line_by array_form array_of (before cursor.old) }
 {
-    let fields = array_fields(cursor)?;
+    let mut fields = [cursor.key(b"array")?; 4];
+    read_fields(cursor, &[Number, Number, Map, Map], &mut fields)?;
     Ok(array_of(fields)?)
 }
 
-pub(crate) fn heading_line(cursor: &mut Cursor) -> Result<Heading, SheetFault>
-    ensures value { sheet_answer headed result cursor.new ≡ line_by stmt_form head_of (before cursor.old) }
-    ensures bound { IfOk result (λ h. Short h.i × Short h.j) }
+fn heading_line(cursor: &mut Cursor) -> Result<Heading, SheetFault>
+    ensures { sheet_answer headed result cursor.new ≡ line_by stmt_form head_of (before cursor.old) }
 {
-    let fields = stmt_fields(cursor)?;
+    let mut fields = [cursor.key(b"stmt")?; 5];
+    let kinds = [Mode, Number, Number, Number, Number];
+    read_fields(cursor, &kinds, &mut fields)?;
     heading_of(fields)
 }
 
-pub(crate) fn put_line(
-    cursor: &mut Cursor,
-    arrays: &[Array],
-    h: Heading,
-) -> Result<Access, SheetFault>
-    requires { Short h.i × Short h.j }
-    ensures { sheet_answer (λ v. v) result cursor.new ≡ line_by put_form (put_of arrays.now (headed h)) (before cursor.old) }
+fn put_line(cursor: &mut Cursor, arrays: &[Array], heading: Heading) -> Result<Access, SheetFault>
+    ensures { sheet_answer (λ v. v) result cursor.new ≡ line_by put_form (put_of arrays.now (headed heading)) (before cursor.old) }
 {
-    let fields = put_fields(cursor)?;
-    put_of(arrays, h, fields)
+    let mut fields = [cursor.key(b"put")?; 5];
+    let kinds = [Number, Number, Signed, Number, Signed];
+    read_fields(cursor, &kinds, &mut fields)?;
+    put_of(arrays, heading, fields)
 }
 
-pub(crate) fn read_line(
+fn read_line(
     cursor: &mut Cursor,
     arrays: &[Array],
-    h: Heading,
+    heading: Heading,
 ) -> Result<ReadTerm, SheetFault>
-    requires { Short h.i × Short h.j }
-    ensures { sheet_answer (λ v. v) result cursor.new ≡ line_by read_form (read_of arrays.now (headed h)) (before cursor.old) }
+    ensures { sheet_answer (λ v. v) result cursor.new ≡ line_by read_form (read_of arrays.now (headed heading)) (before cursor.old) }
 {
-    let fields = read_fields(cursor)?;
-    read_of(arrays, h, fields)
+    let mut fields = [cursor.key(b"read")?; 8];
+    let kinds = [
+        Number, Number, Variable, Number, Signed, Variable, Number, Signed,
+    ];
+    read_fields(cursor, &kinds, &mut fields)?;
+    read_of(arrays, heading, fields)
 }
 
 pub(crate) fn array_lines(
@@ -83,31 +90,27 @@ pub(crate) fn array_lines(
 ) -> Result<Vec<Array>, SheetFault>
     ensures { lost result ≡ false → sheet_answer vec_items result cursor.new ≡ times count (line_by array_form array_of) (before cursor.old) }
 {
-    let mut arrays = Vec::new(heap);
-    'lines: while arrays.len() < count {
-        arrays.push(array_line(cursor)?)?;
-    }
-    Ok(arrays)
+    times(heap, cursor, count, |cursor| array_line(cursor))
 }
 
-pub(crate) fn read_lines(
+fn read_lines(
     heap: Global,
     cursor: &mut Cursor,
     arrays: &[Array],
-    h: Heading,
+    heading: Heading,
     count: usize,
 ) -> Result<Vec<ReadTerm>, SheetFault>
-    requires { Short h.i × Short h.j }
-    ensures { lost result ≡ false → sheet_answer vec_items result cursor.new ≡ times count (line_by read_form (read_of arrays.now (headed h))) (before cursor.old) }
+    ensures { lost result ≡ false → sheet_answer vec_items result cursor.new ≡ times count (line_by read_form (read_of arrays.now (headed heading))) (before cursor.old) }
 {
-    let mut reads = Vec::new(heap);
-    'lines: while reads.len() < count {
-        reads.push(read_line(cursor, arrays, h)?)?;
-    }
-    Ok(reads)
+    times(
+        heap,
+        cursor,
+        count,
+        |cursor| read_line(cursor, arrays, heading),
+    )
 }
 
-pub(crate) fn statement_of(
+fn statement_of(
     heap: Global,
     cursor: &mut Cursor,
     arrays: &[Array],
@@ -137,9 +140,10 @@ pub(crate) fn statements_of(
 ) -> Result<Vec<Statement>, SheetFault>
     ensures { lost result ≡ false → sheet_answer said_all result cursor.new ≡ times count (statement_of arrays.now) (before cursor.old) }
 {
-    let mut statements = Vec::new(heap);
-    'lines: while statements.len() < count {
-        statements.push(statement_of(heap, cursor, arrays)?)?;
-    }
-    Ok(statements)
+    times(
+        heap,
+        cursor,
+        count,
+        |cursor| statement_of(heap, cursor, arrays),
+    )
 }

@@ -5,6 +5,7 @@ ghost use Rattle.nest.specs.Terms.{far, moved, position, range_of, inside};
 ghost use Rattle.sheet.specs.Verdicts.{Short, Near, within, offset_of, map_of, mode_of, variable_of, range_from, access_of};
 ghost use Rattle.sheet.specs.Answered.{field_verdict, nest_verdict};
 
+use crate::heading::Heading;
 use nest::fault::{FieldFault, NestFault};
 use nest::terms::{Access, Array, MapWord, Mode, Offset, Range, Subscript, Variable};
 use tokens::part::Token;
@@ -102,11 +103,11 @@ fn range_of(variable: Variable, i: Range, j: Range) -> Range
 }
 
 // Whether a subscript stays within a dimension in every iteration: positions grow with the variable.
-fn stays_inside(i: Range, j: Range, size: usize, s: Subscript) -> bool
-    requires { (Short i) × ((Short j) × (Near s)) }
-    ensures { result ≡ inside i j size s }
+fn stays_inside(heading: Heading, size: usize, s: Subscript) -> bool
+    requires { Near s }
+    ensures { result ≡ inside heading.i heading.j size s }
 {
-    let range = range_of(s.variable, i, j);
+    let range = range_of(s.variable, heading.i, heading.j);
     1 <= position_at(s, range.low) && position_at(s, range.high) <= size
 }
 
@@ -119,38 +120,31 @@ pub(crate) struct AccessFields<'a> {
     pub(crate) row: Subscript,
     pub(crate) column_factor: Token<'a>,
     pub(crate) column: Subscript,
+    ghost numbered: { 1 ≤ number },
+    ghost near: { Near row × Near column },
 }
 
 pub(crate) fn access(
     arrays: &[Array],
-    i: Range,
-    j: Range,
+    heading: Heading,
     f: AccessFields,
 ) -> Result<Access, NestFault>
-    requires { (Short i) × ((Short j) × ((1 ≤ f.number) × ((Near f.row) × (Near f.column)))) }
-    ensures { nest_verdict result ≡ access_of arrays.now i j (part_of f.entry.array) f.entry.number (part_of f.entry.row_factor) f.entry.row (part_of f.entry.column_factor) f.entry.column }
+    ensures { nest_verdict result ≡ access_of arrays.now heading.i heading.j (part_of f.entry.array) f.entry.number (part_of f.entry.row_factor) f.entry.row (part_of f.entry.column_factor) f.entry.column }
 {
-    let AccessFields {
-        array,
-        number,
-        row_factor,
-        row,
-        column_factor,
-        column,
-    } = f;
-    if number > arrays.len() {
-        return Err(NestFault::NoSuchArray(array.part().place));
+    if f.number > arrays.len() {
+        return Err(NestFault::NoSuchArray(f.array.part().place));
     }
-    let target = arrays[number - 1];
-    if !stays_inside(i, j, target.rows, row) {
-        return Err(NestFault::LeavesArray(row_factor.part().place));
+    let array = f.number - 1;
+    let target = arrays[array];
+    if !stays_inside(heading, target.rows, f.row) {
+        return Err(NestFault::LeavesArray(f.row_factor.part().place));
     }
-    if !stays_inside(i, j, target.columns, column) {
-        return Err(NestFault::LeavesArray(column_factor.part().place));
+    if !stays_inside(heading, target.columns, f.column) {
+        return Err(NestFault::LeavesArray(f.column_factor.part().place));
     }
     Ok(Access {
-        array: number - 1,
-        row,
-        column,
+        array,
+        row: f.row,
+        column: f.column,
     })
 }

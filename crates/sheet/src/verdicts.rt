@@ -1,128 +1,126 @@
 // The values that the fields of a line stand for, or the first of the faults that a form allows.
-ghost use Rattle.std.specs.Prelude.{◌≡◌, ℕ, ◌≤◌, IfOk};
+ghost use Rattle.std.specs.Prelude.{◌≡◌, map};
 ghost use Rattle.tokens.specs.Views.{part_of};
 ghost use Rattle.sheet.specs.Verdicts.{Short, grid_of, array_of, head_of, put_of, read_of};
 ghost use Rattle.sheet.specs.Answered.{field_verdict, sheet_verdict};
-ghost use Rattle.sheet.specs.Fields.{grid_parts, array_parts, statement_parts, put_parts, read_parts};
 ghost use Rattle.sheet.specs.Heads.{headed};
 
-use crate::forms::{ArrayFields, GridFields, PutFields, ReadFields, StatementFields};
+use crate::heading::Heading;
 use crate::rules::{AccessFields, access, map_word, mode, offset, range_from, ranged, variable};
 use nest::fault::{FieldFault, NestFault, SheetFault};
-use nest::terms::{Access, Array, Grid, Mode, Range, ReadTerm, Subscript, Variable};
+use nest::terms::{Access, Array, Grid, ReadTerm, Subscript, Variable};
+use tokens::part::Token;
 
-pub(crate) fn grid_of(f: GridFields) -> Result<Grid, SheetFault>
-    ensures { sheet_verdict (λ v. v) result ≡ grid_of (grid_parts f.entry) }
+pub(crate) fn grid_of(fields: [Token; 2]) -> Result<Grid, SheetFault>
+    ensures { sheet_verdict (λ v. v) result ≡ grid_of (map part_of fields.entry) }
 {
-    let rows = ranged(f.rows, 1, 8)?;
-    let columns = ranged(f.columns, 1, 8)?;
-    if rows * columns > 8 {
-        return Err(NestFault::TooManyBoards(f.rows.part().place).into());
+    let [rows, columns] = fields;
+    let grid = Grid {
+        rows: ranged(rows, 1, 8)?,
+        columns: ranged(columns, 1, 8)?,
+    };
+    if grid.rows * grid.columns > 8 {
+        return Err(NestFault::TooManyBoards(rows.part().place).into());
     }
-    Ok(Grid { rows, columns })
+    Ok(grid)
 }
 
-pub(crate) fn array_of(f: ArrayFields) -> Result<Array, FieldFault>
-    ensures { field_verdict result ≡ array_of (array_parts f.entry) }
+pub(crate) fn array_of(fields: [Token; 4]) -> Result<Array, FieldFault>
+    ensures { field_verdict result ≡ array_of (map part_of fields.entry) }
 {
-    let rows = ranged(f.rows, 1, 32)?;
-    let columns = ranged(f.columns, 1, 32)?;
-    let row_map = map_word(f.row_map)?;
-    let column_map = map_word(f.column_map)?;
+    let [rows, columns, row_map, column_map] = fields;
     Ok(Array {
-        rows,
-        columns,
-        row_map,
-        column_map,
+        rows: ranged(rows, 1, 32)?,
+        columns: ranged(columns, 1, 32)?,
+        row_map: map_word(row_map)?,
+        column_map: map_word(column_map)?,
     })
 }
 
-/// What a `stmt` line says.
-#[derive(Clone, Copy)]
-pub(crate) struct Heading {
-    pub(crate) mode: Mode,
-    pub(crate) i: Range,
-    pub(crate) j: Range,
-}
-
-pub(crate) fn heading_of(f: StatementFields) -> Result<Heading, SheetFault>
-    ensures value { sheet_verdict headed result ≡ head_of (statement_parts f.entry) }
-    ensures bound { IfOk result (λ h. Short h.i × Short h.j) }
+pub(crate) fn heading_of(fields: [Token; 5]) -> Result<Heading, SheetFault>
+    ensures { sheet_verdict headed result ≡ head_of (map part_of fields.entry) }
 {
-    let i_low = ranged(f.i_low, 1, 32)?;
-    let i_high = ranged(f.i_high, 1, 32)?;
-    let j_low = ranged(f.j_low, 1, 32)?;
-    let j_high = ranged(f.j_high, 1, 32)?;
-    let i = range_from(f.i_low, i_low, i_high)?;
-    let j = range_from(f.j_low, j_low, j_high)?;
+    let [word, i_low, i_high, j_low, j_high] = fields;
+    let i_from = ranged(i_low, 1, 32)?;
+    let i_to = ranged(i_high, 1, 32)?;
+    let j_from = ranged(j_low, 1, 32)?;
+    let j_to = ranged(j_high, 1, 32)?;
     Ok(Heading {
-        mode: mode(f.mode),
-        i,
-        j,
+        i: range_from(i_low, i_from, i_to)?,
+        j: range_from(j_low, j_from, j_to)?,
+        mode: mode(word),
     })
 }
 
-pub(crate) fn put_of(arrays: &[Array], h: Heading, f: PutFields) -> Result<Access, SheetFault>
-    requires { Short h.i × Short h.j }
-    ensures { sheet_verdict (λ v. v) result ≡ put_of arrays.now (headed h) (put_parts f.entry) }
+pub(crate) fn put_of(
+    arrays: &[Array],
+    heading: Heading,
+    fields: [Token; 5],
+) -> Result<Access, SheetFault>
+    ensures { sheet_verdict (λ v. v) result ≡ put_of arrays.now (headed heading) (map part_of fields.entry) }
 {
-    let number = ranged(f.array, 1, 4)?;
-    let row_factor = ranged(f.row_factor, 1, 4)?;
-    let row_offset = offset(f.row_offset)?;
-    let column_factor = ranged(f.column_factor, 1, 4)?;
-    let column_offset = offset(f.column_offset)?;
+    let [array, row_factor, row_offset, column_factor, column_offset] = fields;
+    let number = ranged(array, 1, 4)?;
     let row = Subscript {
         variable: Variable::I,
-        factor: row_factor,
-        offset: row_offset,
+        factor: ranged(row_factor, 1, 4)?,
+        offset: offset(row_offset)?,
     };
     let column = Subscript {
         variable: Variable::J,
-        factor: column_factor,
-        offset: column_offset,
+        factor: ranged(column_factor, 1, 4)?,
+        offset: offset(column_offset)?,
     };
-    let fields = AccessFields {
-        array: f.array,
+    let named = AccessFields {
+        array,
         number,
-        row_factor: f.row_factor,
+        row_factor,
         row,
-        column_factor: f.column_factor,
+        column_factor,
         column,
     };
-    Ok(access(arrays, h.i, h.j, fields)?)
+    Ok(access(arrays, heading, named)?)
 }
 
-pub(crate) fn read_of(arrays: &[Array], h: Heading, f: ReadFields) -> Result<ReadTerm, SheetFault>
-    requires { Short h.i × Short h.j }
-    ensures { sheet_verdict (λ v. v) result ≡ read_of arrays.now (headed h) (read_parts f.entry) }
+pub(crate) fn read_of(
+    arrays: &[Array],
+    heading: Heading,
+    fields: [Token; 8],
+) -> Result<ReadTerm, SheetFault>
+    ensures { sheet_verdict (λ v. v) result ≡ read_of arrays.now (headed heading) (map part_of fields.entry) }
 {
-    let coefficient = ranged(f.coefficient, 0, 7)?;
-    let number = ranged(f.array, 1, 4)?;
-    let row_factor = ranged(f.row_factor, 0, 4)?;
-    let row_offset = offset(f.row_offset)?;
-    let column_factor = ranged(f.column_factor, 0, 4)?;
-    let column_offset = offset(f.column_offset)?;
+    let [
+        coefficient,
+        array,
+        row_variable,
+        row_factor,
+        row_offset,
+        column_variable,
+        column_factor,
+        column_offset,
+    ] = fields;
+    let coefficient = ranged(coefficient, 0, 7)?;
+    let number = ranged(array, 1, 4)?;
     let row = Subscript {
-        variable: variable(f.row_variable),
-        factor: row_factor,
-        offset: row_offset,
+        variable: variable(row_variable),
+        factor: ranged(row_factor, 0, 4)?,
+        offset: offset(row_offset)?,
     };
     let column = Subscript {
-        variable: variable(f.column_variable),
-        factor: column_factor,
-        offset: column_offset,
+        variable: variable(column_variable),
+        factor: ranged(column_factor, 0, 4)?,
+        offset: offset(column_offset)?,
     };
-    let fields = AccessFields {
-        array: f.array,
+    let named = AccessFields {
+        array,
         number,
-        row_factor: f.row_factor,
+        row_factor,
         row,
-        column_factor: f.column_factor,
+        column_factor,
         column,
     };
-    let source = access(arrays, h.i, h.j, fields)?;
     Ok(ReadTerm {
         coefficient,
-        source,
+        source: access(arrays, heading, named)?,
     })
 }

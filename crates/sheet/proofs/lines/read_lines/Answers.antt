@@ -1,23 +1,10 @@
-use Rattle.std.proofs.Common.{◌<◌, length, vec_items, sym, subst, arith}
-use Rattle.std.proofs.lemmas.Result.{err_from_is_err_and}
-use Rattle.tokens.specs.Views.{before}
+use Rattle.std.proofs.Common.{refl, rules}
 use Rattle.sheet.specs.Forms.{read_form}
 use Rattle.sheet.specs.Heads.{headed}
-use Rattle.sheet.specs.Verdicts.{read_of}
 use Rattle.sheet.specs.Lines.{line_by}
-use Rattle.sheet.proofs.Repeats.{Past, past_more, past_refused}
+use Rattle.sheet.specs.Verdicts.{read_of}
+use Rattle.sheet.proofs.Repeats.{repeated_times}
 use Rattle.sheet.proofs.lines.read_lines.Goals as goal
 
-pub returns-in_err-read_line : goal.returns-in_err-read_line
-returns-in_err-read_line c =
-    let p = err_from_is_err_and c.from_residual.result c.from_residual.ensures.1 in
-    let few : length (vec_items c.lines.reads) < c.args.count = omega (arith, c.lines.reads.ok.0, c.len.ensures) in
-    rw (p.1, p.2) (λ _. past_refused _ _ _ _ _ c.lines.invariant.1 _ _ _ few c.in_err-read_line.ensures)
-
-pub lines-preserved : goal.lines-preserved
-lines-preserved c =
-    let few : length (vec_items c.lines.reads) < c.args.count = omega (arith, c.lines.reads.ok.0, c.len.ensures) in (
-      omega (arith, c.in_ok-push.ensures.len, c.len.ensures),
-      subst (λ l. Past c.args.count (line_by read_form (read_of c.args.arrays.now (headed c.args.h))) (before c.args.cursor.now) l (before c.read_line.new.cursor)) (sym c.in_ok-push.ensures.items)
-          (past_more _ _ _ _ _ c.lines.invariant.1 _ _ few c.in_ok-read_line.ensures),
-    )
+pub returns : goal.returns
+returns c = repeated_times _ _ _ _ _ _ c.times.ensures (λ v. v) (line_by read_form (read_of c.args.arrays.now (headed c.args.heading))) (λ p q s h k. search rules) (λ vs. vs) refl (λ v vs. refl)
