@@ -1,3 +1,4 @@
+pub mod Near
 pub mod Repeats
 pub mod Kept
 pub mod Readers

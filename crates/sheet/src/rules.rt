@@ -1,7 +1,7 @@
 // What the fields of a line say, once the line has its form.
 ghost use Rattle.std.specs.Prelude.{◌≡◌, ℕ, ◌-◌, ◌≤◌, length, IfOk};
 ghost use Rattle.tokens.specs.Views.{part_of};
-ghost use Rattle.nest.specs.Terms.{far, moved, position, range_of, inside};
+ghost use Rattle.nest.specs.Terms.{far, position, pick, inside};
 ghost use Rattle.sheet.specs.Verdicts.{Short, Near, within, offset_of, map_of, mode_of, variable_of, range_from, access_of};
 ghost use Rattle.sheet.specs.Answered.{field_verdict, nest_verdict};
 
@@ -81,34 +81,15 @@ pub(crate) fn range_from(token: Token, low: usize, high: usize) -> Result<Range,
     }
 }
 
-// The position that a subscript names at a value of its variable; 0 is none.
-fn position_at(s: Subscript, v: usize) -> usize
-    requires { (s.factor ≤ 4) × ((far s.offset ≤ 64) × (v ≤ 32)) }
-    ensures { result ≡ position s v }
-{
-    let n = s.factor * v;
-    match s.offset {
-        Offset::Plus(c) => n + c,
-        Offset::Minus(c) => n.saturating_sub(c),
-    }
-}
-
-fn range_of(variable: Variable, i: Range, j: Range) -> Range
-    ensures { result ≡ range_of variable i j }
-{
-    match variable {
-        Variable::I => i,
-        Variable::J => j,
-    }
-}
-
 // Whether a subscript stays within a dimension in every iteration: positions grow with the variable.
+#[tactic(auto, using(crate::proofs::Near::near_small))]
 fn stays_inside(heading: Heading, size: usize, s: Subscript) -> bool
     requires { Near s }
     ensures { result ≡ inside heading.i heading.j size s }
 {
-    let range = range_of(s.variable, heading.i, heading.j);
-    1 <= position_at(s, range.low) && position_at(s, range.high) <= size
+    let range = s.variable.pick(heading.i, heading.j);
+    s.position(range.low).is_some_and(|p| 1 <= p)
+        && s.position(range.high).is_some_and(|p| p <= size)
 }
 
 /// A field that names an array, and the fields and values of two subscripts.
