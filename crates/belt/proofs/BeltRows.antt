@@ -19,9 +19,9 @@ module _ {V : Type 0} where
       go : (for_pair s r x ≡ true) ⊎ (for_pair s r x ≡ false) → for_pair s r x ≡ false
       go (inr e) = e
       go (inl e) =
-          let m = and_parts (eqb x.from p) (eqb x.to q) mine in
-          let o = and_parts (eqb x.from s) (eqb x.to r) e in
-          absurd (apart (sym (eqb-true x.from s o.0) ∙ eqb-true x.from p m.0) (sym (eqb-true x.to r o.1) ∙ eqb-true x.to q m.1))
+          let m = and_parts (eqb x.pair.from p) (eqb x.pair.to q) mine in
+          let o = and_parts (eqb x.pair.from s) (eqb x.pair.to r) e in
+          absurd (apart (sym (eqb-true x.pair.from s o.0) ∙ eqb-true x.pair.from p m.0) (sym (eqb-true x.pair.to r o.1) ∙ eqb-true x.pair.to q m.1))
 
   -- a slot of the pair p, q joins the end
   module _ (p q : ℕ) (x : Slot V) (mine : for_pair p q x ≡ true) (slots : List (Slot V)) where
@@ -103,7 +103,7 @@ module _ {V : Type 0} where
     -- the letter v comes
     module _ (v : V) (free : length (letters_for p q (take used slots)) ≢ d) (kept : Kept n d (take used slots)) where
       abbrev new : Slot V
-      new = record { from = p; to = q; letter = v }
+      new = record { pair = record { from = p; to = q }; letter = v }
 
       free_below : length (letters_for p q (take used slots)) < d
       free_below = omega (arith, (kept p q).0)

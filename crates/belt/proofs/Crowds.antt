@@ -73,24 +73,24 @@ module _ {V : Type 0} where
           omega (arith, ap length (letters_other p q s ss e))
 
   -- a slot counts for one pair
-  one_receiver : (p n : ℕ) (s : Slot V) → s.to < n → tally (λ q. cond (for_pair p q s) 1 0) n ≡ cond (eqb s.from p) 1 0
-  one_receiver p n s l = go (eqb s.from p)
+  one_receiver : (p n : ℕ) (s : Slot V) → s.pair.to < n → tally (λ q. cond (for_pair p q s) 1 0) n ≡ cond (eqb s.pair.from p) 1 0
+  one_receiver p n s l = go (eqb s.pair.from p)
     where
-      go : (t : Bool) → tally (λ q. cond (t && eqb s.to q) 1 0) n ≡ cond t 1 0
-      go true = tally_one s.to n l
+      go : (t : Bool) → tally (λ q. cond (t && eqb s.pair.to q) 1 0) n ≡ cond t 1 0
+      go true = tally_one s.pair.to n l
       go false = tally_zero n
 
-  crowd_more : (n : ℕ) (s : Slot V) (ss : List (Slot V)) → s.from < n → s.to < n → crowd n (s ∷ ss) ≡ 1 + crowd n ss
+  crowd_more : (n : ℕ) (s : Slot V) (ss : List (Slot V)) → s.pair.from < n → s.pair.to < n → crowd n (s ∷ ss) ≡ 1 + crowd n ss
   crowd_more n s ss h k =
-      tally_same (λ p. tally (λ q. length (letters_for p q (s ∷ ss))) n) (λ p. cond (eqb s.from p) 1 0 + tally (λ q. length (letters_for p q ss)) n) n
+      tally_same (λ p. tally (λ q. length (letters_for p q (s ∷ ss))) n) (λ p. cond (eqb s.pair.from p) 1 0 + tally (λ q. length (letters_for p q ss)) n) n
       (λ p. tally_same (λ q. length (letters_for p q (s ∷ ss))) (λ q. cond (for_pair p q s) 1 0 + length (letters_for p q ss)) n (λ q. one_more p q s ss)
       ∙ tally_add (λ q. cond (for_pair p q s) 1 0) (λ q. length (letters_for p q ss)) n
       ∙ ap (λ x. x + tally (λ q. length (letters_for p q ss)) n) (one_receiver p n s k))
-      ∙ tally_add (λ p. cond (eqb s.from p) 1 0) (λ p. tally (λ q. length (letters_for p q ss)) n) n
-      ∙ ap (λ x. x + crowd n ss) (tally_one s.from n h)
+      ∙ tally_add (λ p. cond (eqb s.pair.from p) 1 0) (λ p. tally (λ q. length (letters_for p q ss)) n) n
+      ∙ ap (λ x. x + crowd n ss) (tally_one s.pair.from n h)
 
-  pub own_pair : (s : Slot V) → for_pair s.from s.to s ≡ true
-  own_pair s = and_from (eqb s.from s.from) (eqb s.to s.to) (eq-eqb s.from s.from refl) (eq-eqb s.to s.to refl)
+  pub own_pair : (s : Slot V) → for_pair s.pair.from s.pair.to s ≡ true
+  own_pair s = and_from (eqb s.pair.from s.pair.from) (eqb s.pair.to s.pair.to) (eq-eqb s.pair.from s.pair.from refl) (eq-eqb s.pair.to s.pair.to refl)
 
   kept_rest : (n d : ℕ) (s : Slot V) (ss : List (Slot V)) → Kept n d (s ∷ ss) → Kept n d ss
   kept_rest n d s ss kept p q =
@@ -101,10 +101,10 @@ module _ {V : Type 0} where
   crowd_all : (n d : ℕ) (slots : List (Slot V)) → Kept n d slots → crowd n slots ≡ length slots
   crowd_all n d [] kept = tally_same (λ p. tally (λ q. 0) n) (λ p. 0) n (λ p. tally_zero n) ∙ tally_zero n
   crowd_all n d (s ∷ ss) kept =
-      let mine : length (letters_for s.from s.to (s ∷ ss)) ≡ suc (length (letters_for s.from s.to ss)) = ap length (letters_mine s.from s.to s ss (own_pair s)) in
-      let k = kept s.from s.to in
-      let h : s.from < n = below s.from n (λ l. k.1 l) mine in
-      let l : s.to < n = below s.to n (λ l. k.2 l) mine in
+      let mine : length (letters_for s.pair.from s.pair.to (s ∷ ss)) ≡ suc (length (letters_for s.pair.from s.pair.to ss)) = ap length (letters_mine s.pair.from s.pair.to s ss (own_pair s)) in
+      let k = kept s.pair.from s.pair.to in
+      let h : s.pair.from < n = below s.pair.from n (λ l. k.1 l) mine in
+      let l : s.pair.to < n = below s.pair.to n (λ l. k.2 l) mine in
       omega (arith, crowd_more n s ss h l, crowd_all n d ss (kept_rest n d s ss kept))
     where
       below : {r c : ℕ} (a b : ℕ) → (b ≤ a → r ≤ 0) → r ≡ suc c → a < b

@@ -1,8 +1,11 @@
 -- The letters of a pair on a belt, one slot more or less. Assumes nothing.
-use Rattle.std.proofs.Common.{◌≡◌, ℕ, ◌+◌, ◌<◌, ◌≤◌, Bool, true, false, cond, List, ◌∷◌, ◌++◌, map, length, get_or, take, Some, filter, sym, ap, ◌∙◌, ap₂, arith}
+use Rattle.std.proofs.Common.{◌≡◌, ℕ, ◌<◌, ◌≤◌, true, false, List, [], ◌∷◌, ◌++◌, map, length, take, Some, None, Option, filter, sym, refl, ap, ◌∙◌, Bool, cond, ◌+◌, not, one-add, arith}
 use Rattle.std.proofs.lemmas.List.Elements.{filter-append}
-use Rattle.std.proofs.lemmas.List.Filters.{length-filter_more}
-use Rattle.std.proofs.lemmas.List.{map-append, length-map, take-take, get_or-take, get_or_read, length-take-le}
+use Rattle.std.proofs.lemmas.List.Quantifiers.{position-Some}
+use Rattle.std.proofs.lemmas.Bool.Decides.{nat_tests}
+use Rattle.std.proofs.lemmas.Grind.{common_steps}
+use Rattle.std.specs.List.{position, position_or_len}
+use Rattle.std.proofs.lemmas.List.{map-append, take_all}
 use Rattle.std.proofs.lemmas.Bool.{cond-true, cond-false}
 use Rattle.belt.specs.declared.slots.Slot.{Slot}
 use Rattle.belt.specs.Belt.{for_pair, letter_of, letters_for, FirstOf}
@@ -17,23 +20,20 @@ module _ {V : Type 0} (p q : ℕ) where
   pub letters_other : (s : Slot V) (ss : List (Slot V)) → for_pair p q s ≡ false → letters_for p q (s ∷ ss) ≡ letters_for p q ss
   letters_other s ss e = ap (map letter_of) (cond-false (for_pair p q s) (s ∷ filter (for_pair p q) ss) (filter (for_pair p q) ss) e)
 
-  -- one slot more is passed
-  pub count_more : (xs : List (Slot V)) (i : ℕ) (x : Slot V) → i < length xs → x ≡ get_or xs i x → length (letters_for p q (take (i + 1) xs)) ≡ length (letters_for p q (take i xs)) + cond (for_pair p q x) 1 0
-  count_more xs i x h read =
-      length-map (filter (for_pair p q) (take (i + 1) xs)) letter_of
-      ∙ length-filter_more (for_pair p q) xs i x h
-      ∙ ap₂ (λ n y. n + cond (for_pair p q y) 1 0) (sym (length-map (filter (for_pair p q) (take i xs)) letter_of)) (sym read)
+  none_before : (xs : List (Slot V)) → length (letters_for p q (take (position_or_len (for_pair p q) xs) xs)) ≡ 0
+  none_before [] = refl
+  none_before (x ∷ xs) = go (position_or_len (for_pair p q) xs) (for_pair p q x) refl (none_before xs)
+    where
+      go : (n : ℕ) (t : Bool) → for_pair p q x ≡ t → length (letters_for p q (take n xs)) ≡ 0 → length (letters_for p q (take (cond (not t) (1 + n) 0) (x ∷ xs))) ≡ 0
+      go n true e rest = refl
+      go n false e rest = rw one-add (ap length (letters_other x (take n xs) e) ∙ rest)
 
-  pub count_mine : (xs : List (Slot V)) (i : ℕ) (x : Slot V) (t : Bool) → i < length xs → x ≡ get_or xs i x → t ≡ for_pair p q x → t ≡ true → length (letters_for p q (take (i + 1) xs)) ≡ length (letters_for p q (take i xs)) + 1
-  count_mine xs i x t h read is e = count_more xs i x h read ∙ ap (λ n. length (letters_for p q (take i xs)) + n) (cond-true (for_pair p q x) 1 0 (sym is ∙ e))
-
-  pub count_other : (xs : List (Slot V)) (i : ℕ) (x : Slot V) (t : Bool) → i < length xs → x ≡ get_or xs i x → t ≡ for_pair p q x → t ≡ false → length (letters_for p q (take (i + 1) xs)) ≡ length (letters_for p q (take i xs))
-  count_other xs i x t h read is e = let more : length (letters_for p q (take (i + 1) xs)) ≡ length (letters_for p q (take i xs)) + 0 = count_more xs i x h read ∙ ap (λ n. length (letters_for p q (take i xs)) + n) (cond-false (for_pair p q x) 1 0 (sym is ∙ e)) in omega arith
-
-  -- the first slot of the pair is found among the first `used`
-  pub first_found : (xs : List (Slot V)) (used i : ℕ) (x : Slot V) (t : Bool) → i < used → used ≤ length xs → x ≡ get_or xs i x → t ≡ for_pair p q x → t ≡ true → length (letters_for p q (take i xs)) ≡ 0 → FirstOf p q (take used xs) (Some i)
-  first_found xs used i x t h l read is e none = (
-    omega (arith, length-take-le used xs l),
-    ap (λ l. length (letters_for p q l)) (take-take i used xs (omega arith)) ∙ none,
-    λ s. ap (for_pair p q) (get_or-take used xs i s h ∙ sym (get_or_read xs i x (omega arith) read s)) ∙ sym is ∙ e,
-  )
+  -- the place that is found
+  pub first_at : (xs : List (Slot V)) (r : Option ℕ) → r ≡ position (for_pair p q) xs → FirstOf p q xs r
+  first_at xs None e =
+      let past : length xs ≤ position_or_len (for_pair p q) xs = grind (arith, common_steps, nat_tests) in
+      ap (λ ys. length (letters_for p q ys)) (sym (take_all (position_or_len (for_pair p q) xs) xs past)) ∙ none_before xs
+  first_at xs (Some i) e =
+      let is : i ≡ position_or_len (for_pair p q) xs = grind (arith, common_steps, nat_tests) in
+      let below : i < length xs = grind (arith, common_steps, nat_tests) in
+      (below, ap (λ n. length (letters_for p q (take n xs))) is ∙ none_before xs, λ s. (position-Some (for_pair p q) xs i s (sym e)).1)

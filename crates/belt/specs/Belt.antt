@@ -5,7 +5,7 @@ use Rattle.post.specs.Mail.{Mail}
 
 -- The slot holds a letter from p to q.
 abbrev pub for_pair : {V : Type 0} → ℕ → ℕ → Slot V → Bool
-for_pair p q s = s.from == p && s.to == q
+for_pair p q s = s.pair.from == p && s.pair.to == q
 
 abbrev pub letter_of : {V : Type 0} → Slot V → V
 letter_of s = s.letter

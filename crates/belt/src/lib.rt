@@ -2,7 +2,6 @@
 #![tactic(auto)]
 
 mod belt;
-mod line;
 mod slots;
 
 pub use belt::Belt;

@@ -1,18 +1,9 @@
 //! The slots of a belt.
-ghost use Rattle.std.specs.Prelude.{◌≡◌};
-ghost use Rattle.belt.specs.Belt.{for_pair};
+use post::pair::Pair;
 
 /// A letter with the pair it belongs to.
-#[derive(Clone, Copy)]
+#[derive(Clone, Copy, PartialEq, Eq, Debug)]
 pub struct Slot<T> {
-    pub from: usize,
-    pub to: usize,
+    pub pair: Pair,
     pub letter: T,
-}
-
-/// Whether the slot holds a letter of the pair.
-pub(crate) fn is_for<T: Copy>(slot: Slot<T>, from: usize, to: usize) -> bool
-    ensures { result ≡ for_pair from to slot }
-{
-    slot.from == from && slot.to == to
 }

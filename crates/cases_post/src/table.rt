@@ -1,10 +1,11 @@
 //! Running one case and printing what the posts answer.
 use crate::numerals::Numeral;
-use crate::script::{read_calls, read_count, read_value};
+use crate::script::{CaseFault, TermCase, read_call_case, read_term_case};
 use belt::{Belt, Slot};
 use lanes::Lanes;
-use post::answers::PostRefusal;
+use post::answers::{PostRefusal, Posted};
 use post::calls::{Reply, serve_both};
+use post::pair::Pair;
 use post::service::Post;
 use post::terms::pass_term;
 use std::io;
@@ -12,58 +13,57 @@ use std::str::SplitWhitespace;
 
 /// Runs the case on a line, or says that the line is none.
 pub(crate) fn run_line(rt: &HostRuntime, line: &str) -> io::Result<()> {
-    let mut words = line.split_whitespace();
-    let Some(word) = words.next() else {
-        return Ok(());
-    };
-    let known = match word {
-        "#" => true,
-        "i32" => run_calls::<i32>(rt, &mut words)?,
-        "f64" => run_calls::<f64>(rt, &mut words)?,
-        "term" => run_term(rt, &mut words)?,
-        _ => false,
-    };
-    if !known {
-        println!(rt; "  not a case")?;
+    match run_case(rt, &mut line.split_whitespace()) {
+        Ok(()) => Ok(()),
+        Err(CaseFault::NotACase) => println!(rt; "  not a case"),
+        Err(CaseFault::Io(error)) => Err(error),
     }
-    Ok(())
+}
+
+fn run_case(rt: &HostRuntime, words: &mut SplitWhitespace<'_>) -> Result<(), CaseFault> {
+    match words.next() {
+        None | Some("#") => Ok(()),
+        Some("i32") => run_calls::<i32>(rt, words),
+        Some("f64") => run_calls::<f64>(rt, words),
+        Some("term") => match words.next() {
+            Some("i32") => run_term::<i32>(rt, words),
+            Some("f64") => run_term::<f64>(rt, words),
+            _ => Err(CaseFault::NotACase),
+        },
+        Some(_) => Err(CaseFault::NotACase),
+    }
 }
 
 /// What fills the slots of a belt before it is made.
 fn blank_slot<T: Numeral>() -> Slot<T> {
     Slot {
-        from: 0,
-        to: 0,
+        pair: Pair { from: 0, to: 0 },
         letter: T::FILL,
     }
 }
 
-/// What stands for a reply before a call is made.
-fn no_reply<T: Numeral>() -> Reply<T> {
-    Reply::NoLetter
-}
-
 /// Makes the calls of a case on lanes and on a belt.
-fn run_calls<T: Numeral>(rt: &HostRuntime, words: &mut SplitWhitespace<'_>) -> io::Result<bool> {
-    let Some(boards) = read_count(words) else {
-        return Ok(false);
-    };
-    let Some(size) = read_count(words) else {
-        return Ok(false);
-    };
-    let Some(calls) = read_calls::<T>(rt.alloc(), words)? else {
-        return Ok(false);
-    };
-    let mut letters = vec![in rt.alloc(); T::FILL; size]?;
-    let mut slots = vec![in rt.alloc(); blank_slot::<T>(); size]?;
-    let mut lanes = Lanes::new(&mut letters, boards);
-    let mut belt = Belt::new(&mut slots, boards);
-    let mut on_lanes = vec![in rt.alloc(); no_reply::<T>(); calls.len()]?;
-    let mut on_belt = vec![in rt.alloc(); no_reply::<T>(); calls.len()]?;
-    serve_both(&mut lanes, &mut belt, &calls, &mut on_lanes, &mut on_belt);
+fn run_calls<T: Numeral>(rt: &HostRuntime, words: &mut SplitWhitespace<'_>) -> Result<(), CaseFault>
+where
+    T::Err: Drop,
+{
+    let case = read_call_case::<T>(rt.alloc(), words)?;
+    let mut letters = vec![in rt.alloc(); T::FILL; case.size]?;
+    let mut slots = vec![in rt.alloc(); blank_slot::<T>(); case.size]?;
+    let mut lanes = Lanes::new(&mut letters, case.boards);
+    let mut belt = Belt::new(&mut slots, case.boards);
+    let mut on_lanes = vec![in rt.alloc(); Ok(Reply::Taken(None)); case.calls.len()]?;
+    let mut on_belt = vec![in rt.alloc(); Ok(Reply::Taken(None)); case.calls.len()]?;
+    serve_both(
+        &mut lanes,
+        &mut belt,
+        &case.calls,
+        &mut on_lanes,
+        &mut on_belt,
+    );
     show_post(rt, "lanes", &lanes, &on_lanes)?;
     show_post(rt, "belt", &belt, &on_belt)?;
-    Ok(true)
+    Ok(())
 }
 
 /// Prints the board count, the depth, the replies, and the number waiting for each pair, with one board too many.
@@ -71,7 +71,7 @@ fn show_post<T: Numeral, P: Post<Letter = T>>(
     rt: &HostRuntime,
     name: &str,
     post: &P,
-    replies: &[Reply<T>],
+    replies: &[Result<Reply<T>, PostRefusal>],
 ) -> io::Result<()> {
     let boards = post.boards();
     let depth = post.depth();
@@ -83,7 +83,7 @@ fn show_post<T: Numeral, P: Post<Letter = T>>(
     for from in 0..=boards {
         print!(rt; " |")?;
         for to in 0..=boards {
-            match post.waiting(from, to) {
+            match post.waiting(Pair { from, to }) {
                 Ok(count) => print!(rt; " {count}")?,
                 Err(PostRefusal::NoSuchBoard) => print!(rt; " 14")?,
             }
@@ -92,56 +92,41 @@ fn show_post<T: Numeral, P: Post<Letter = T>>(
     println!(rt; "")
 }
 
-fn show_reply<T: Numeral>(rt: &HostRuntime, reply: Reply<T>) -> io::Result<()> {
+fn show_reply<T: Numeral>(
+    rt: &HostRuntime,
+    reply: Result<Reply<T>, PostRefusal>,
+) -> io::Result<()> {
     match reply {
-        Reply::Joined => print!(rt; " joined"),
-        Reply::Full => print!(rt; " full"),
-        Reply::Letter(letter) => letter.show(rt),
-        Reply::NoLetter => print!(rt; " none"),
-        Reply::Refused(PostRefusal::NoSuchBoard) => print!(rt; " refused-14"),
+        Ok(Reply::Put(Posted::Joined)) => print!(rt; " joined"),
+        Ok(Reply::Put(Posted::Full)) => print!(rt; " full"),
+        Ok(Reply::Taken(Some(value))) => print!(rt; " {value}"),
+        Ok(Reply::Taken(None)) => print!(rt; " none"),
+        Err(PostRefusal::NoSuchBoard) => print!(rt; " refused-14"),
     }
 }
 
 /// Adds a term by way of lanes and by way of a belt, each of one board.
-fn run_term(rt: &HostRuntime, words: &mut SplitWhitespace<'_>) -> io::Result<bool> {
-    match words.next() {
-        Some("i32") => show_term::<i32>(rt, words),
-        Some("f64") => show_term::<f64>(rt, words),
-        _ => Ok(false),
-    }
-}
-
-fn show_term<T: Numeral>(rt: &HostRuntime, words: &mut SplitWhitespace<'_>) -> io::Result<bool> {
-    let Some(size) = read_count(words) else {
-        return Ok(false);
-    };
-    let Some(element) = read_value::<T>(words) else {
-        return Ok(false);
-    };
-    let Some(coefficient) = read_value::<T>(words) else {
-        return Ok(false);
-    };
-    let Some(value) = read_value::<T>(words) else {
-        return Ok(false);
-    };
+fn run_term<T: Numeral>(rt: &HostRuntime, words: &mut SplitWhitespace<'_>) -> Result<(), CaseFault>
+where
+    T::Err: Drop,
+{
+    let TermCase {
+        size,
+        element,
+        coefficient,
+        value,
+    } = read_term_case::<T>(words)?;
     let mut letters = vec![in rt.alloc(); T::FILL; size]?;
     let mut slots = vec![in rt.alloc(); blank_slot::<T>(); size]?;
+    let own = Pair { from: 0, to: 0 };
     let mut lanes = Lanes::new(&mut letters, 1);
     let mut belt = Belt::new(&mut slots, 1);
-    let on_lanes = pass_term(&mut lanes, 0, 0, element, coefficient, value);
-    let on_belt = pass_term(&mut belt, 0, 0, element, coefficient, value);
+    let on_lanes = pass_term(&mut lanes, own, element, coefficient, value);
+    let on_belt = pass_term(&mut belt, own, element, coefficient, value);
     print!(rt; "  lanes")?;
-    show_sum(rt, on_lanes)?;
+    show_reply(rt, on_lanes.map(Reply::Taken))?;
     print!(rt; ", belt")?;
-    show_sum(rt, on_belt)?;
+    show_reply(rt, on_belt.map(Reply::Taken))?;
     println!(rt; "")?;
-    Ok(true)
-}
-
-fn show_sum<T: Numeral>(rt: &HostRuntime, sum: Result<Option<T>, PostRefusal>) -> io::Result<()> {
-    match sum {
-        Ok(Some(value)) => value.show(rt),
-        Ok(None) => print!(rt; " none"),
-        Err(PostRefusal::NoSuchBoard) => print!(rt; " refused-14"),
-    }
+    Ok(())
 }

@@ -2,7 +2,6 @@
 use Rattle.std.proofs.Common.{◌≡◌, ℕ, zero, suc, ◌+◌, ◌-◌, ◌*◌, ◌<◌, ◌≤◌, Bool, true, false, cond, ◌&&◌, ltb, ◌≢◌, ◌⊎◌, List, [], ◌∷◌, ◌++◌, length, get_or, take, drop, set, replicate, sym, refl, ap, ◌∙◌, subst, ap₂, inl, inr, arith}
 use Rattle.std.proofs.lemmas.List.{get_or-set_same, get_or-set_other, get_or-take, get_or-drop}
 use Rattle.std.proofs.lemmas.Bool.{cond-true, and_parts, and_from, ltb-true, lt-ltb, cases_eq}
-use Rattle.lanes.specs.declared.heads.Heads.{Heads}
 use Rattle.lanes.specs.declared.rings.Ring.{Ring}
 use Rattle.lanes.specs.Lanes.{Within, ring_at, no_ring, place, lane, in_ring, lanes_mail}
 use Rattle.post.specs.Mail.{Mail, Served, letter, empty_post, with_row, after_put, oldest, take_answer, after_take}
@@ -74,10 +73,6 @@ pub record Lying {V : Type 0} (n d p q pair : ℕ) (rings : List Ring) (letters 
   pub table : length rings ≡ 64
   pub within : Within d rings
   pub room : n * n * d ≤ length letters
-
--- the lanes of a table of heads, which keeps what its ghost fields say
-pub heads_lying : {V : Type 0} (h : Heads) (p q pair : ℕ) (letters : List V) → pair ≡ place h.boards p q → Served h.boards p q → h.boards * h.boards * h.depth ≤ length letters → Lying h.boards h.depth p q pair h.rings letters
-heads_lying h p q pair letters is served room = record { is = is; served = served; few = h.few; table = h.table; within = h.within; room = room }
 
 module _ {V : Type 0} {n d p q pair : ℕ} {rings : List Ring} {letters : List V} (lying : Lying n d p q pair rings letters) where
   open lying use {is, few, table, within, room}

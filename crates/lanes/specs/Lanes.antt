@@ -1,7 +1,9 @@
 -- How lanes keep their letters: one ring for each ordered pair, over one slice. Assumes nothing.
-use Rattle.std.specs.Prelude.{ℕ, ◌+◌, ◌*◌, ◌<◌, ◌≤◌, cond, ◌&&◌, List, [], ◌++◌, take, drop, nat_lt, slice_index_or}
+use Rattle.std.specs.Prelude.{◌≡◌, ℕ, ◌+◌, ◌*◌, ◌<◌, ◌≤◌, cond, ◌&&◌, List, [], ◌++◌, take, drop, nat_lt, slice_index_or, Ok, Err, Result}
 use Rattle.lanes.specs.declared.rings.Ring.{Ring}
-use Rattle.post.specs.Mail.{Mail}
+use Rattle.post.specs.declared.answers.PostRefusal.{PostRefusal}
+use Rattle.post.specs.Answers.{service}
+use Rattle.post.specs.Mail.{Mail, Served}
 
 -- A pair that no table holds: an empty ring.
 abbrev pub no_ring : Ring
@@ -33,3 +35,9 @@ lanes_mail n d rings letters = record {
   depth = d;
   row = λ p q. cond (nat_lt p n && nat_lt q n) (in_ring (ring_at rings (place n p q)) (lane d letters (place n p q))) [];
 }
+
+-- What asking for the place of the pair p, q among those of n boards gives: the place, below n * n and 64, of a pair that
+-- is served; else the refusal.
+abbrev pub Placed : ℕ → ℕ → ℕ → Result ℕ PostRefusal → Type 0
+Placed n p q (Ok k) = Served n p q × (k ≡ place n p q) × (k < n * n) × (k < 64)
+Placed n p q (Err e) = service n p q ≡ Err e

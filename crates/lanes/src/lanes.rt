@@ -1,13 +1,14 @@
 //! Lanes: a post that keeps one ring of letters for every ordered pair, over a lent slice.
-ghost use Rattle.std.specs.Prelude.{◌≡◌, ◌*◌, ◌≤◌, length};
-ghost use Rattle.lanes.specs.Lanes.{lanes_mail};
+ghost use Rattle.std.specs.Prelude.{◌≡◌, ◌+◌, ◌-◌, ◌*◌, ◌<◌, ◌≤◌, length, if◌then◌else◌, cond, ◌&&◌, nat_lt, Ok, Err};
+ghost use Rattle.lanes.specs.Lanes.{Within, Placed, lanes_mail};
 ghost use Rattle.post.specs.Made.{board_count, depth_for};
 ghost use Rattle.post.specs.Mail.{empty_post};
 ghost use Rattle.lanes.specs.Tidy.{lanes_orderly};
 
-use crate::heads::Heads;
+use crate::rings::Ring;
 use post::answers::{PostRefusal, Posted};
 use post::kinds::NumberKind;
+use post::pair::Pair;
 use post::service::Post;
 use post::sizes::{pair_depth, served_boards};
 
@@ -15,60 +16,109 @@ use post::sizes::{pair_depth, served_boards};
 /// A put, a take and every question take the same time whatever the board count and the depth.
 #[derive(Drop)]
 pub struct Lanes<'a, T> {
-    heads: Heads,
+    boards: usize,
+    depth: usize,
+    /// For each ordered pair, by sender and then receiver, its ring; the pair's lane has the same place in `letters`.
+    rings: [Ring; 64],
     letters: &'a mut [T],
-    ghost room: { heads.boards * heads.boards * heads.depth ≤ length letters.now },
+    ghost few: { boards ≤ 8 },
+    ghost shallow: { depth ≤ 4096 },
+    ghost table: { length rings ≡ 64 },
+    ghost within: { Within depth rings },
+    ghost room: { boards * boards * depth ≤ length letters.now },
 }
 
 impl<'a, T> Lanes<'a, T> {
     /// Lanes over a buffer, in which no letter waits, for 1 to 8 boards: the nearest to the count that is asked for.
     pub fn new(letters: &'a mut [T], boards: usize) -> Lanes<'a, T>
-        ensures { lanes_mail result.heads.boards result.heads.depth result.heads.rings result.letters.now ≡ empty_post (board_count boards) (depth_for (length letters.old) (board_count boards)) }
+        ensures { lanes_mail result.boards result.depth result.rings result.letters.now ≡ empty_post (board_count boards) (depth_for (length letters.old) (board_count boards)) }
     {
         let depth = pair_depth(letters.len(), boards);
         let boards = served_boards(boards);
         Lanes {
-            heads: Heads::empty(boards, depth),
+            boards,
+            depth,
+            rings: [Ring { first: 0, count: 0 }; 64],
             letters,
         }
+    }
+
+    /// The place of a pair among those that are served.
+    fn place(&self, pair: Pair) -> Result<usize, PostRefusal>
+        ensures { Placed self.now.boards pair.from pair.to result }
+    {
+        pair.served(self.boards)?;
+        Ok(pair.from * self.boards + pair.to)
+    }
+
+    /// A place at most one round too far, brought back into a lane.
+    fn round(&self, at: usize) -> usize
+        requires { at < self.now.depth + self.now.depth }
+        ensures value { result ≡ (if nat_lt at self.now.depth then at else at - self.now.depth) }
+        ensures inside { result < self.now.depth }
+    {
+        if at < self.depth { at } else { at - self.depth }
+    }
+
+    /// The place in the slice of letters of place `at` in the lane of a pair's place.
+    fn spot(&self, place: usize, at: usize) -> usize
+        requires place { place < self.now.boards * self.now.boards }
+        requires inside { at < self.now.depth }
+        ensures value { result ≡ place * self.now.depth + at }
+        ensures below { result < self.now.boards * self.now.boards * self.now.depth }
+    {
+        place * self.depth + at
     }
 }
 
 impl<'a, T: NumberKind> Post for Lanes<'a, T> {
     type Letter = T;
 
-    ghost mail = { λ p. lanes_mail p.heads.boards p.heads.depth p.heads.rings p.letters.now };
+    ghost mail = { λ p. lanes_mail p.boards p.depth p.rings p.letters.now };
 
-    ghost orderly = { λ p. lanes_orderly p.heads.boards p.heads.depth p.heads.rings p.letters.now p.heads.within };
+    ghost orderly = { λ p. lanes_orderly p.boards p.depth p.rings p.letters.now p.within };
 
     fn boards(&self) -> usize {
-        self.heads.boards
+        self.boards
     }
 
     fn depth(&self) -> usize {
-        self.heads.depth
+        self.depth
     }
 
-    fn waiting(&self, from: usize, to: usize) -> Result<usize, PostRefusal> {
-        if from >= self.heads.boards || to >= self.heads.boards {
-            return Err(PostRefusal::NoSuchBoard);
-        }
-        Ok(self.heads.waiting(from, to))
+    fn waiting(&self, pair: Pair) -> Result<usize, PostRefusal> {
+        Ok(self.rings[self.place(pair)?].count)
     }
 
-    fn put(&mut self, from: usize, to: usize, letter: T) -> Result<Posted, PostRefusal> {
-        let Lanes { heads, letters } = self;
-        if from >= heads.boards || to >= heads.boards {
-            return Err(PostRefusal::NoSuchBoard);
+    fn put(&mut self, pair: Pair, letter: T) -> Result<Posted, PostRefusal> {
+        let place = self.place(pair)?;
+        let Ring { first, count } = self.rings[place];
+        if count == self.depth {
+            return Ok(Posted::Full);
         }
-        Ok(heads.put(letters, from, to, letter))
+        let at = self.round(first + count);
+        let spot = self.spot(place, at);
+        self.letters[spot] = letter;
+        self.rings[place] = Ring {
+            first,
+            count: count + 1,
+        };
+        Ok(Posted::Joined)
     }
 
-    fn take(&mut self, from: usize, to: usize) -> Result<Option<T>, PostRefusal> {
-        let Lanes { heads, letters } = self;
-        if from >= heads.boards || to >= heads.boards {
-            return Err(PostRefusal::NoSuchBoard);
+    fn take(&mut self, pair: Pair) -> Result<Option<T>, PostRefusal> {
+        let place = self.place(pair)?;
+        let Ring { first, count } = self.rings[place];
+        if count == 0 {
+            return Ok(None);
         }
-        Ok(heads.take(letters, from, to))
+        let spot = self.spot(place, first);
+        let letter = self.letters[spot];
+        let next = self.round(first + 1);
+        self.rings[place] = Ring {
+            first: next,
+            count: count - 1,
+        };
+        Ok(Some(letter))
     }
 }

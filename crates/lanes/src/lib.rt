@@ -1,7 +1,6 @@
 //! A post over a lent slice of letters, in which each ordered pair of boards has a ring of its own.
 #![tactic(auto)]
 
-mod heads;
 mod lanes;
 mod rings;
 

@@ -1,10 +1,12 @@
 -- Lists of calls, one call more, and where each letter goes. Assumes nothing.
-use Rattle.std.proofs.Common.{◌≡◌, ℕ, ◌+◌, ◌<◌, Bool, true, false, cond, ◌&&◌, eqb, List, [], ◌∷◌, ◌++◌, map, length, get_or, take, drop, set, sym, refl, ap, ◌∙◌, ap₂, subst₂, arith}
+use Rattle.std.proofs.Common.{◌≡◌, ℕ, ◌+◌, ◌<◌, Bool, true, false, cond, ◌&&◌, eqb, List, [], ◌∷◌, ◌++◌, map, length, Result, get_or, take, drop, set, sym, refl, ap, ◌∙◌, ap₂, subst₂, arith}
 use Rattle.std.proofs.lemmas.List.{take_more, take_more_set, drop-set-lt, drop-drop, take-take, map_push, append-nil, append_assoc}
 use Rattle.std.proofs.lemmas.Bool.{and_parts, eqb-true}
 use Rattle.post.specs.declared.calls.Call.{Call}
 use Rattle.post.specs.declared.calls.Call.TheVariants.{Put, Take}
 use Rattle.post.specs.declared.calls.Reply.{Reply}
+use Rattle.post.specs.declared.answers.PostRefusal.{PostRefusal}
+use Rattle.post.specs.declared.pair.Pair.{Pair}
 use Rattle.post.specs.Calls.{said, answer_of, after_call, answers_of, after_calls, added, removed, all_added, all_removed, Conserved, Answered}
 use Rattle.post.specs.Mail.{Mail, joined, full, refused, no_such_board, serves, at_depth, oldest, with_row, put_answer, after_put, take_answer, after_take}
 
@@ -22,20 +24,20 @@ module _ {V : Type 0} where
   tested m p q s r e = let parts = and_parts (eqb p s) (eqb q r) e in ap₂ m.row (eqb-true p s parts.0) (eqb-true q r parts.1)
 
   -- one call adds to its row's end and removes from its front
-  conserved_put : (m : Mail V) (s r : ℕ) (v : V) (p q : ℕ) → (after_put m s r v).row p q ≡ m.row p q ++ added p q (Put s r v) (put_answer m s r)
-  conserved_put m s r v p q = go (serves m s r) (at_depth m s r)
+  conserved_put : (m : Mail V) (at : Pair) (v : V) (p q : ℕ) → (after_put m at.from at.to v).row p q ≡ m.row p q ++ added p q (Put at v) (put_answer m at.from at.to)
+  conserved_put m at v p q = go (serves m at.from at.to) (at_depth m at.from at.to)
     where
-      joins : (t : Bool) → (t ≡ true → m.row p q ≡ m.row s r) → cond t (m.row s r ++ (v ∷ [])) (m.row p q) ≡ m.row p q ++ cond t (v ∷ []) []
+      joins : (t : Bool) → (t ≡ true → m.row p q ≡ m.row at.from at.to) → cond t (m.row at.from at.to ++ (v ∷ [])) (m.row p q) ≡ m.row p q ++ cond t (v ∷ []) []
       joins true e = ap (λ l. l ++ (v ∷ [])) (sym (e refl))
       joins false e = sym (append-nil (m.row p q))
 
-      go : (t u : Bool) → (cond t (cond u m (with_row m s r (m.row s r ++ (v ∷ [])))) m).row p q ≡ m.row p q ++ added p q (Put s r v) (cond t (cond u full joined) (refused no_such_board))
+      go : (t u : Bool) → (cond t (cond u m (with_row m at.from at.to (m.row at.from at.to ++ (v ∷ [])))) m).row p q ≡ m.row p q ++ added p q (Put at v) (cond t (cond u full joined) (refused no_such_board))
       go false u = sym (append-nil (m.row p q))
       go true true = sym (append-nil (m.row p q))
-      go true false = joins (eqb p s && eqb q r) (tested m p q s r)
+      go true false = joins (eqb p at.from && eqb q at.to) (tested m p q at.from at.to)
 
-  conserved_take : (m : Mail V) (s r p q : ℕ) → removed p q (Take s r) (take_answer m s r) ++ (after_take m s r).row p q ≡ m.row p q
-  conserved_take m s r p q = go (serves m s r)
+  conserved_take : (m : Mail V) (at : Pair) (p q : ℕ) → removed p q (Take at) (take_answer m at.from at.to) ++ (after_take m at.from at.to).row p q ≡ m.row p q
+  conserved_take m at p q = go (serves m at.from at.to)
     where
       oldest_first : (w : V) (ws : List V) (t : Bool) → (t ≡ true → m.row p q ≡ w ∷ ws) → cond t (w ∷ []) [] ++ cond t ws (m.row p q) ≡ m.row p q
       oldest_first w ws true e = sym (e refl)
@@ -45,17 +47,17 @@ module _ {V : Type 0} where
       nothing true e = sym (e refl)
       nothing false e = refl
 
-      leaves : (xs : List V) → ((eqb p s && eqb q r) ≡ true → m.row p q ≡ xs) → removed p q (Take s r) (oldest xs) ++ cond (eqb p s && eqb q r) (drop 1 xs) (m.row p q) ≡ m.row p q
-      leaves [] e = nothing (eqb p s && eqb q r) e
-      leaves (w ∷ ws) e = oldest_first w ws (eqb p s && eqb q r) e
+      leaves : (xs : List V) → ((eqb p at.from && eqb q at.to) ≡ true → m.row p q ≡ xs) → removed p q (Take at) (oldest xs) ++ cond (eqb p at.from && eqb q at.to) (drop 1 xs) (m.row p q) ≡ m.row p q
+      leaves [] e = nothing (eqb p at.from && eqb q at.to) e
+      leaves (w ∷ ws) e = oldest_first w ws (eqb p at.from && eqb q at.to) e
 
-      go : (t : Bool) → removed p q (Take s r) (cond t (oldest (m.row s r)) (refused no_such_board)) ++ (cond t (with_row m s r (drop 1 (m.row s r))) m).row p q ≡ m.row p q
+      go : (t : Bool) → removed p q (Take at) (cond t (oldest (m.row at.from at.to)) (refused no_such_board)) ++ (cond t (with_row m at.from at.to (drop 1 (m.row at.from at.to))) m).row p q ≡ m.row p q
       go false = refl
-      go true = leaves (m.row s r) (tested m p q s r)
+      go true = leaves (m.row at.from at.to) (tested m p q at.from at.to)
 
   conserved_call : (m : Mail V) (c : Call V) (p q : ℕ) → removed p q c (answer_of m c) ++ (after_call m c).row p q ≡ m.row p q ++ added p q c (answer_of m c)
-  conserved_call m (Put s r v) p q = conserved_put m s r v p q
-  conserved_call m (Take s r) p q = conserved_take m s r p q ∙ sym (append-nil (m.row p q))
+  conserved_call m (Put at v) p q = conserved_put m at v p q
+  conserved_call m (Take at) p q = conserved_take m at p q ∙ sym (append-nil (m.row p q))
 
   pub conserved : (m : Mail V) (cs : List (Call V)) → Conserved m cs (answers_of m cs) (after_calls m cs)
   conserved m [] p q = sym (append-nil (m.row p q))
@@ -70,7 +72,7 @@ module _ {V : Type 0} where
       ∙ append_assoc (m.row p q) come later
 
   -- a record of what k calls leave, from all but the last of its fields
-  made : (m : Mail V) (calls : List (Call V)) (before replies : List (Reply V)) (n : Mail V) (k : ℕ) → map said (take k replies) ≡ answers_of m (take k calls) → n ≡ after_calls m (take k calls) → drop k replies ≡ drop k before → Answered m calls before replies n k
+  made : (m : Mail V) (calls : List (Call V)) (before replies : List (Result (Reply V) PostRefusal)) (n : Mail V) (k : ℕ) → map said (take k replies) ≡ answers_of m (take k calls) → n ≡ after_calls m (take k calls) → drop k replies ≡ drop k before → Answered m calls before replies n k
   made m calls before replies n k a b r = record {
     answers = a;
     after = b;
@@ -78,11 +80,11 @@ module _ {V : Type 0} where
     conserved = subst₂ (Conserved m (take k calls)) (sym a) (sym b) (conserved m (take k calls));
   }
 
-  pub answered_none : (m : Mail V) (calls : List (Call V)) (before : List (Reply V)) → Answered m calls before before m 0
+  pub answered_none : (m : Mail V) (calls : List (Call V)) (before : List (Result (Reply V) PostRefusal)) → Answered m calls before before m 0
   answered_none m calls before = made m calls before before m 0 refl refl refl
 
   pub answered_more :
-      {m now next : Mail V} {calls : List (Call V)} {before replies : List (Reply V)} {k : ℕ} (c : Call V) (r : Reply V) →
+      {m now next : Mail V} {calls : List (Call V)} {before replies : List (Result (Reply V) PostRefusal)} {k : ℕ} (c : Call V) (r : Result (Reply V) PostRefusal) →
       Answered m calls before replies now k → k < length calls → k < length replies → c ≡ get_or calls k c → said r ≡ answer_of now c → next ≡ after_call now c →
       Answered m calls before (set replies k r) next (k + 1)
   answered_more {m} {now} {next} {calls} {before} {replies} {k} c r s h l read answered changed =
@@ -99,7 +101,7 @@ module _ {V : Type 0} where
       ∙ drop-drop 1 k before)
 
   -- the calls of a front part are the first calls
-  pub answered_front : {m n : Mail V} {calls front : List (Call V)} {before replies : List (Reply V)} {j k : ℕ} → Answered m front before replies n j → front ≡ take k calls → j ≡ k → Answered m calls before replies n k
+  pub answered_front : {m n : Mail V} {calls front : List (Call V)} {before replies : List (Result (Reply V) PostRefusal)} {j k : ℕ} → Answered m front before replies n j → front ≡ take k calls → j ≡ k → Answered m calls before replies n k
   answered_front {m} {n} {calls} {front} {before} {replies} {j} {k} s f e =
       let part : take j front ≡ take k calls = ap₂ take e f ∙ take-take k k calls (omega arith) in
       made m calls before replies n k
@@ -109,7 +111,7 @@ module _ {V : Type 0} where
 
   -- two posts that mean the same
   pub alike :
-      {m n a b : Mail V} {calls : List (Call V)} {xs ys before others : List (Reply V)} {k : ℕ} → Answered m calls before xs a k → Answered n calls others ys b k → m ≡ n →
+      {m n a b : Mail V} {calls : List (Call V)} {xs ys before others : List (Result (Reply V) PostRefusal)} {k : ℕ} → Answered m calls before xs a k → Answered n calls others ys b k → m ≡ n →
       (map said (take k xs) ≡ map said (take k ys)) × (a ≡ b)
   alike {calls = calls} {k = k} s t same =
       (s.answers ∙ ap (λ m. answers_of m (take k calls)) same ∙ sym t.answers, s.after ∙ ap (λ m. after_calls m (take k calls)) same ∙ sym t.after)

@@ -1,8 +1,15 @@
 -- The answers and the meaning that a put and a take leave, case by case. Assumes nothing.
-use Rattle.std.proofs.Common.{◌≡◌, ℕ, ◌<◌, ◌≤◌, true, false, cond, ltb, ◌≢◌, ◌⊎◌, [], ◌∷◌, ◌++◌, length, drop, sym, ap, ◌∙◌, inl, inr}
+use Rattle.std.proofs.Common.{◌≡◌, ℕ, ◌<◌, ◌≤◌, true, false, cond, ltb, ◌≢◌, ◌⊎◌, [], ◌∷◌, ◌++◌, length, drop, sym, ap, ◌∙◌, inl, inr, Ok, arith}
 use Rattle.std.proofs.lemmas.Bool.{cond-true, cond-false, and_from, and_left, and_right, lt-ltb, le-ltb, eq-eqb, ne_eqb}
-use Rattle.post.specs.Mail.{Mail, joined, full, waits, refused, no_such_board, serves, at_depth, oldest, with_row, put_answer, after_put, take_answer, after_take, count_answer}
+use Rattle.std.proofs.lemmas.Bool.Decides.{nat_tests}
+use Rattle.std.proofs.lemmas.Grind.{common_steps}
+use Rattle.post.specs.Answers.{service}
+use Rattle.post.specs.Mail.{Mail, Served, joined, full, waits, refused, no_such_board, serves, at_depth, oldest, with_row, put_answer, after_put, take_answer, after_take, count_answer}
 use Rattle.post.proofs.Mails.{same_row}
+
+-- a pair that is not refused
+pub admitted : (n p q : ℕ) (u : Unit {0}) → Ok u ≡ service n p q → Served n p q
+admitted n p q u e = grind (arith, common_steps, nat_tests)
 
 module _ {V : Type 0} (m : Mail V) (p q : ℕ) where
   -- a pair outside the board count

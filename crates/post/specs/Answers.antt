@@ -1,5 +1,5 @@
 -- Each case that a call of a post returns, with its number and its values. Assumes nothing.
-use Rattle.std.specs.Prelude.{ℕ, Some, None, Ok, Err, Option, Result}
+use Rattle.std.specs.Prelude.{ℕ, cond, ◌&&◌, nat_lt, Some, None, Ok, Err, Option, Result}
 use Rattle.post.specs.declared.answers.Posted.{Posted}
 use Rattle.post.specs.declared.answers.Posted.TheVariants.{Joined, Full}
 use Rattle.post.specs.declared.answers.PostRefusal.{PostRefusal}
@@ -22,3 +22,7 @@ said_take (Err e) = refused (refusal e)
 abbrev pub said_count : {V : Type 0} → Result ℕ PostRefusal → Answer V
 said_count (Ok n) = waits n
 said_count (Err e) = refused (refusal e)
+
+-- Whether the pair p, q is one of n boards: nothing, or the refusal.
+abbrev pub service : ℕ → ℕ → ℕ → Result (Unit {0}) PostRefusal
+service n p q = cond (nat_lt p n && nat_lt q n) (Ok tt) (Err NoSuchBoard)

@@ -1,28 +1,27 @@
 -- Lists of calls: what they answer, what they leave, and where each letter goes. Assumes nothing.
-use Rattle.std.specs.Prelude.{◌≡◌, ℕ, cond, ◌&&◌, List, [], ◌∷◌, ◌++◌, map, take, drop, ◌==◌}
+use Rattle.std.specs.Prelude.{◌≡◌, ℕ, cond, ◌&&◌, List, [], ◌∷◌, ◌++◌, map, take, drop, ◌==◌, Ok, Err, Result}
 use Rattle.post.specs.declared.calls.Call.{Call}
 use Rattle.post.specs.declared.calls.Call.TheVariants.{Put, Take}
 use Rattle.post.specs.declared.calls.Reply.{Reply}
-use Rattle.post.specs.declared.calls.Reply.TheVariants.{Joined, Full, Letter, NoLetter, Refused}
-use Rattle.post.specs.Answers.{refusal}
+use Rattle.post.specs.declared.calls.Reply.TheVariants.{Put as PutReply, Taken}
+use Rattle.post.specs.declared.answers.PostRefusal.{PostRefusal}
+use Rattle.post.specs.Answers.{said_put, said_take, refusal}
 use Rattle.post.specs.Mail.{Mail, Answer, joined, full, letter, none, waits, refused, put_answer, after_put, take_answer, after_take}
 
 -- Each case of a reply, with its number and its values.
-abbrev pub said : {V : Type 0} → Reply V → Answer V
-said Joined = joined
-said Full = full
-said (Letter v) = letter v
-said NoLetter = none
-said (Refused e) = refused (refusal e)
+abbrev pub said : {V : Type 0} → Result (Reply V) PostRefusal → Answer V
+said (Ok (PutReply posted)) = said_put (Ok posted)
+said (Ok (Taken found)) = said_take (Ok found)
+said (Err e) = refused (refusal e)
 
 -- What one call answers on a post, and the post that it leaves.
 abbrev pub answer_of : {V : Type 0} → Mail V → Call V → Answer V
-answer_of m (Put p q v) = put_answer m p q
-answer_of m (Take p q) = take_answer m p q
+answer_of m (Put pair v) = put_answer m pair.from pair.to
+answer_of m (Take pair) = take_answer m pair.from pair.to
 
 abbrev pub after_call : {V : Type 0} → Mail V → Call V → Mail V
-after_call m (Put p q v) = after_put m p q v
-after_call m (Take p q) = after_take m p q
+after_call m (Put pair v) = after_put m pair.from pair.to v
+after_call m (Take pair) = after_take m pair.from pair.to
 
 -- What a list of calls answers, first to last, and the post that it leaves.
 abbrev pub answers_of : {V : Type 0} → Mail V → List (Call V) → List (Answer V)
@@ -35,23 +34,23 @@ after_calls m (c ∷ cs) = after_calls (after_call m c) cs
 
 -- The letter that a call added to the row from p to q: that of a put there which was answered joined.
 abbrev pub added : {V : Type 0} → ℕ → ℕ → Call V → Answer V → List V
-added p q (Put s r v) joined = cond (p == s && q == r) (v ∷ []) []
-added p q (Put s r v) full = []
-added p q (Put s r v) (letter w) = []
-added p q (Put s r v) none = []
-added p q (Put s r v) (waits n) = []
-added p q (Put s r v) (refused n) = []
-added p q (Take s r) a = []
+added p q (Put pair v) joined = cond (p == pair.from && q == pair.to) (v ∷ []) []
+added p q (Put pair v) full = []
+added p q (Put pair v) (letter w) = []
+added p q (Put pair v) none = []
+added p q (Put pair v) (waits n) = []
+added p q (Put pair v) (refused n) = []
+added p q (Take pair) a = []
 
 -- The letter that a call removed from that row: the one that a take there was answered.
 abbrev pub removed : {V : Type 0} → ℕ → ℕ → Call V → Answer V → List V
-removed p q (Put s r v) a = []
-removed p q (Take s r) joined = []
-removed p q (Take s r) full = []
-removed p q (Take s r) (letter w) = cond (p == s && q == r) (w ∷ []) []
-removed p q (Take s r) none = []
-removed p q (Take s r) (waits n) = []
-removed p q (Take s r) (refused n) = []
+removed p q (Put pair v) a = []
+removed p q (Take pair) joined = []
+removed p q (Take pair) full = []
+removed p q (Take pair) (letter w) = cond (p == pair.from && q == pair.to) (w ∷ []) []
+removed p q (Take pair) none = []
+removed p q (Take pair) (waits n) = []
+removed p q (Take pair) (refused n) = []
 
 -- The letters that a list of calls added and removed, going by what it was answered.
 abbrev pub all_added : {V : Type 0} → ℕ → ℕ → List (Call V) → List (Answer V) → List V
@@ -70,7 +69,7 @@ Conserved m calls answers n = (p q : ℕ) → all_removed p q calls answers ++ n
 
 -- The first k of the calls were made on the post m, which is now n: the first k replies are the answers, the other
 -- replies are as before, and no letter was lost, doubled or overtaken.
-pub record Answered {V : Type 0} (m : Mail V) (calls : List (Call V)) (before replies : List (Reply V)) (n : Mail V) (k : ℕ) : Type 0 where
+pub record Answered {V : Type 0} (m : Mail V) (calls : List (Call V)) (before replies : List (Result (Reply V) PostRefusal)) (n : Mail V) (k : ℕ) : Type 0 where
   pub answers : map said (take k replies) ≡ answers_of m (take k calls)
   pub after : n ≡ after_calls m (take k calls)
   pub rest : drop k replies ≡ drop k before

@@ -2,7 +2,7 @@
 //! first in, first out. A letter is one value of a number kind.
 //!
 //! - `kinds`: number kinds, and the two that are built in
-//! - `service`, `answers`: the interface of a post and what its calls answer
+//! - `pair`, `service`, `answers`: pairs of boards, the interface of a post and what its calls answer
 //! - `calls`, `terms`: what stands on the interface alone
 //! - `sizes`: the board count and the depth of a post that is made from a buffer
 #![tactic(auto)]
@@ -10,6 +10,7 @@
 pub mod answers;
 pub mod calls;
 pub mod kinds;
+pub mod pair;
 pub mod service;
 pub mod sizes;
 pub mod terms;

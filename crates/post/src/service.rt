@@ -5,6 +5,7 @@ ghost use Rattle.post.specs.Answers.{said_put, said_take, said_count};
 
 use crate::answers::{PostRefusal, Posted};
 use crate::kinds::NumberKind;
+use crate::pair::Pair;
 
 /// A post: bounded rows of waiting letters, one for each ordered pair of sender and receiver.
 pub trait Post {
@@ -26,16 +27,16 @@ pub trait Post {
         ensures { result ≡ (mail self.now).depth };
 
     /// How many letters wait for a pair.
-    fn waiting(&self, from: usize, to: usize) -> Result<usize, PostRefusal>
-        ensures { said_count {V = Self.Letter} result ≡ count_answer (mail self.now) from to };
+    fn waiting(&self, pair: Pair) -> Result<usize, PostRefusal>
+        ensures { said_count {V = Self.Letter} result ≡ count_answer (mail self.now) pair.from pair.to };
 
     /// Puts a letter at the end of a pair's row, unless the row is as long as the depth.
-    fn put(&mut self, from: usize, to: usize, letter: Self::Letter) -> Result<Posted, PostRefusal>
-        ensures answer { said_put {V = Self.Letter} result ≡ put_answer (mail self.old) from to }
-        ensures after { mail self.new ≡ after_put (mail self.old) from to letter };
+    fn put(&mut self, pair: Pair, letter: Self::Letter) -> Result<Posted, PostRefusal>
+        ensures answer { said_put {V = Self.Letter} result ≡ put_answer (mail self.old) pair.from pair.to }
+        ensures after { mail self.new ≡ after_put (mail self.old) pair.from pair.to letter };
 
     /// Takes the oldest letter of a pair, if one waits.
-    fn take(&mut self, from: usize, to: usize) -> Result<Option<Self::Letter>, PostRefusal>
-        ensures answer { said_take result ≡ take_answer (mail self.old) from to }
-        ensures after { mail self.new ≡ after_take (mail self.old) from to };
+    fn take(&mut self, pair: Pair) -> Result<Option<Self::Letter>, PostRefusal>
+        ensures answer { said_take result ≡ take_answer (mail self.old) pair.from pair.to }
+        ensures after { mail self.new ≡ after_take (mail self.old) pair.from pair.to };
 }

@@ -6,7 +6,7 @@ ghost use Rattle.post.specs.Made.{board_count, depth_for};
 pub fn served_boards(asked: usize) -> usize
     ensures { result ≡ board_count asked }
 {
-    asked.max(1).min(8)
+    asked.clamp(1, 8)
 }
 
 /// How many letters of one pair a buffer of `size` letters can hold, at most 4096,

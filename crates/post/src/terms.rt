@@ -6,6 +6,7 @@ ghost use Rattle.post.specs.Terms.{plus_term};
 
 use crate::answers::PostRefusal;
 use crate::kinds::NumberKind;
+use crate::pair::Pair;
 use crate::service::Post;
 
 /// Puts an element to a pair, takes the pair's oldest letter and gives `value + coefficient × letter`,
@@ -13,18 +14,17 @@ use crate::service::Post;
 /// waited before.
 pub fn pass_term<T: NumberKind, P: Post<Letter = T>>(
     post: &mut P,
-    from: usize,
-    to: usize,
+    pair: Pair,
     element: T,
     coefficient: T,
     value: T,
 ) -> Result<Option<T>, PostRefusal>
-    ensures answer { said_take result ≡ plus_term T.NumberKind.sum T.NumberKind.product coefficient value (take_answer (after_put (P.Post.mail post.old) from to element) from to) }
-    ensures after { P.Post.mail post.new ≡ after_take (after_put (P.Post.mail post.old) from to element) from to }
+    ensures answer { said_take result ≡ plus_term T.NumberKind.sum T.NumberKind.product coefficient value (take_answer (after_put (P.Post.mail post.old) pair.from pair.to element) pair.from pair.to) }
+    ensures after { P.Post.mail post.new ≡ after_take (after_put (P.Post.mail post.old) pair.from pair.to element) pair.from pair.to }
 {
-    post.put(from, to, element)?;
-    match post.take(from, to)? {
-        Some(letter) => Ok(Some(value.plus(coefficient.times(letter)))),
-        None => Ok(None),
-    }
+    post.put(pair, element)?;
+    Ok(
+        post.take(pair)?
+            .map(|letter| value.plus(coefficient.times(letter))),
+    )
 }

@@ -1,4 +1,4 @@
-use Rattle.std.proofs.Common.{◌≡◌, ◌-◌, min, length, take, ap, ◌∙◌, arith, length-take}
+use Rattle.std.proofs.Common.{◌≡◌, min, length, take, ap, ◌∙◌, refl, arith, length-take}
 use Rattle.post.proofs.CallRuns.{answered_front, alike}
 use Rattle.post.proofs.calls.serve_both.Goals as goal
 
@@ -6,9 +6,8 @@ pub returns : goal.returns
 returns g c =
     let n = c.min-number.result in
     let calls = c.args.calls.now in
-    let whole : n - 0 ≡ n = omega arith in
-    let front = ap (λ i. take i calls) whole in
-    let long = length-take (n - 0) calls in
+    let front = refl {a = take n calls} in
+    let long = length-take n calls in
     let first : c.serve.result ≡ n = omega (arith, c.serve.ensures.number, long, c.min-number.ensures, c.min.ensures) in
     let second : c.serve-2.result ≡ n = omega (arith, c.serve-2.ensures.number, long, c.min-number.ensures, c.min.ensures) in
     let one = answered_front c.serve.ensures.answered front first in

@@ -1,11 +1,9 @@
-use Rattle.std.proofs.Common.{◌≡◌, length, rules}
-use Rattle.post.specs.Made.{board_count, depth_for}
-use Rattle.lanes.proofs.RingRows.{lanes_empty}
+use Rattle.std.proofs.Common.{refl}
+use Rattle.lanes.proofs.RingRows.{within_empty, lanes_empty}
 use Rattle.lanes.proofs.lanes.Lanes.new.Goals as goal
 
+pub invariant_of-result-clause-within : goal.invariant_of-result-clause-within
+invariant_of-result-clause-within g c = within_empty c.pair_depth-depth.result 64
+
 pub returns : goal.returns
-returns g c =
-    let n = board_count c.args.boards in
-    let boards : c.empty.result.boards ≡ n = search rules in
-    let depth : c.empty.result.depth ≡ depth_for (length c.args.letters.now) n = search rules in
-    lanes_empty c.args.letters.now boards depth c.empty.ensures.1.1
+returns g c = lanes_empty c.args.letters.now c.served_boards-boards.ensures c.pair_depth-depth.ensures.value refl
