@@ -17,10 +17,10 @@ use Rattle.compiler.specs.Cells.{element_at}
 use Rattle.compiler.specs.declared.order.Task.{Task}
 use Rattle.compiler.specs.declared.order.Task.TheVariants.{Ship, Base, Add, Store}
 use Rattle.schedule.specs.Boards.{coefficient_of}
-use Rattle.schedule.specs.Memory.{Event, Memory}
+use Rattle.schedule.specs.Memory.{Event}
 use Rattle.schedule.specs.Events.{event_in, pass_tasks}
 use Rattle.schedule.proofs.WaitingLetters.{Waiting, rows_in, rows_append, oldest_first}
-use Rattle.schedule.proofs.EventsGo.{memory_of, Goes, goes_append, goes_by, goes_from, goes_to}
+use Rattle.schedule.proofs.EventsGo.{memory_of, Goes, goes_nowhere, goes_append, goes_by, goes_from, goes_to}
 use Rattle.schedule.proofs.WrittenValues.{rewritten}
 use Rattle.schedule.proofs.TaskEvents.{target_at, receiver, sender, letter_of, term_added, base_goes, store_goes, ship_goes, add_goes}
 
@@ -69,119 +69,87 @@ module _ {V : Type 0} (k : Setting V) (depth g : ℕ) (deals : Deals) (s : Said)
   -- one task over some iterations
   pub bases_go : (es : List Iteration) (elements held : Element → V) (letters : List (Waiting V))
       → Goes k depth (memory_of elements held letters) (flat_map (event_in g deals s Base) es) (memory_of elements (bases_held k s held es) letters)
-  bases_go [] elements held letters = (tt, refl)
+  bases_go [] elements held letters = goes_nowhere
   bases_go (e ∷ es) elements held letters =
-      let next = rewritten (target_at s) (λ e _. coefficient_of k s.base) held e in
-      goes_append k depth (event_in g deals s Base e) (flat_map (event_in g deals s Base) es) (memory_of elements held letters) (memory_of elements next letters) (memory_of elements (bases_held k s next es) letters)
-      (base_goes k depth g deals s e elements held letters) (bases_go es elements next letters)
+      goes_append (base_goes k depth g deals s e elements held letters) (bases_go es elements (rewritten (target_at s) (λ e _. coefficient_of k s.base) held e) letters)
 
   pub stores_go : (es : List Iteration) (elements held : Element → V) (letters : List (Waiting V))
       → Goes k depth (memory_of elements held letters) (flat_map (event_in g deals s Store) es) (memory_of (all_stored s held elements es) held letters)
-  stores_go [] elements held letters = (tt, refl)
+  stores_go [] elements held letters = goes_nowhere
   stores_go (e ∷ es) elements held letters =
-      let next = rewritten (target_at s) (λ e _. held (target_at s e)) elements e in
-      goes_append k depth (event_in g deals s Store e) (flat_map (event_in g deals s Store) es) (memory_of elements held letters) (memory_of next held letters) (memory_of (all_stored s held next es) held letters)
-      (store_goes k depth g deals s e elements held letters) (stores_go es next held letters)
+      goes_append (store_goes k depth g deals s e elements held letters) (stores_go es (rewritten (target_at s) (λ e _. held (target_at s e)) elements e) held letters)
 
   -- the ships of one read, each behind the letters before it
   ships_go : (r : ReadTerm) (elements held : Element → V) (es : List Iteration) (letters : List (Waiting V)) → Room depth (letters ++ letters_over g deals s elements es r)
       → Goes k depth (memory_of elements held letters) (flat_map (event_in g deals s (Ship r)) es) (memory_of elements held (letters ++ letters_over g deals s elements es r))
-  ships_go r elements held [] letters room = (tt, ap (memory_of elements held) (sym (append-nil letters)))
+  ships_go r elements held [] letters room = goes_to (ap (memory_of elements held) (sym (append-nil letters))) goes_nowhere
   ships_go r elements held (e ∷ es) letters room =
       let one = letter_of g deals s elements r e in
       let rest = letters_over g deals s elements es r in
       let same : (letters ++ one) ++ rest ≡ letters ++ (one ++ rest) = append_assoc letters one rest in
       let v = elements (element_at r.source e) in
-      goes_append k depth (event_in g deals s (Ship r) e) (flat_map (event_in g deals s (Ship r)) es) (memory_of elements held letters) (memory_of elements held (letters ++ one)) (memory_of elements held (letters ++ (one ++ rest)))
+      goes_append
       (ship_goes k depth g deals s r e elements held letters (ship_room depth letters rest (sender g deals r e) (receiver g deals s e) v (eqb (sender g deals r e) (receiver g deals s e)) room))
-      (goes_to k depth (flat_map (event_in g deals s (Ship r)) es) (memory_of elements held (letters ++ one)) (memory_of elements held ((letters ++ one) ++ rest)) (memory_of elements held (letters ++ (one ++ rest))) (ap (memory_of elements held) same)
-      (ships_go r elements held es (letters ++ one) (subst (Room depth) (sym same) room)))
+      (goes_to (ap (memory_of elements held) same) (ships_go r elements held es (letters ++ one) (subst (Room depth) (sym same) room)))
 
   -- the adds of one read: they take the letters that wait longest
   adds_go : (r : ReadTerm) (elements : Element → V) (es : List Iteration) (held : Element → V) (letters : List (Waiting V))
       → Goes k depth (memory_of elements held (letters_over g deals s elements es r ++ letters)) (flat_map (event_in g deals s (Add r)) es) (memory_of elements (terms_held k s elements es held r) letters)
-  adds_go r elements [] held letters = (tt, refl)
+  adds_go r elements [] held letters = goes_nowhere
   adds_go r elements (e ∷ es) held letters =
-      let one = letter_of g deals s elements r e in
       let rest = letters_over g deals s elements es r in
-      let next = rewritten (target_at s) (term_added k elements r) held e in
-      goes_from k depth (flat_map (event_in g deals s (Add r)) (e ∷ es)) (memory_of elements held ((one ++ rest) ++ letters)) (memory_of elements held (one ++ (rest ++ letters))) (memory_of elements (terms_held k s elements es next r) letters)
-      (ap (memory_of elements held) (append_assoc one rest letters))
-      (goes_append k depth (event_in g deals s (Add r) e) (flat_map (event_in g deals s (Add r)) es) (memory_of elements held (one ++ (rest ++ letters))) (memory_of elements next (rest ++ letters)) (memory_of elements (terms_held k s elements es next r) letters)
-      (add_goes k depth g deals s r e elements held (rest ++ letters)) (adds_go r elements es next letters))
+      goes_from (ap (memory_of elements held) (append_assoc (letter_of g deals s elements r e) rest letters))
+      (goes_append (add_goes k depth g deals s r e elements held (rest ++ letters)) (adds_go r elements es (rewritten (target_at s) (term_added k elements r) held e) letters))
 
   -- the ships of some reads, and their adds
   all_ships_go : (es : List Iteration) (elements held : Element → V) (reads : List ReadTerm) (letters : List (Waiting V)) → Room depth (letters ++ all_letters g deals s elements es reads)
       → Goes k depth (memory_of elements held letters) (flat_map (λ t. flat_map (event_in g deals s t) es) (map Ship reads)) (memory_of elements held (letters ++ all_letters g deals s elements es reads))
-  all_ships_go es elements held [] letters room = (tt, ap (memory_of elements held) (sym (append-nil letters)))
+  all_ships_go es elements held [] letters room = goes_to (ap (memory_of elements held) (sym (append-nil letters))) goes_nowhere
   all_ships_go es elements held (r ∷ reads) letters room =
       let one = letters_over g deals s elements es r in
       let rest = all_letters g deals s elements es reads in
       let same : (letters ++ one) ++ rest ≡ letters ++ (one ++ rest) = append_assoc letters one rest in
       let room' : Room depth ((letters ++ one) ++ rest) = subst (Room depth) (sym same) room in
-      let others = flat_map (λ t. flat_map (event_in g deals s t) es) (map Ship reads) in
-      goes_append k depth (flat_map (event_in g deals s (Ship r)) es) others (memory_of elements held letters) (memory_of elements held (letters ++ one)) (memory_of elements held (letters ++ (one ++ rest)))
-      (ships_go r elements held es letters (room_front depth (letters ++ one) rest room'))
-      (goes_to k depth others (memory_of elements held (letters ++ one)) (memory_of elements held ((letters ++ one) ++ rest)) (memory_of elements held (letters ++ (one ++ rest))) (ap (memory_of elements held) same)
-      (all_ships_go es elements held reads (letters ++ one) room'))
+      goes_append (ships_go r elements held es letters (room_front depth (letters ++ one) rest room'))
+      (goes_to (ap (memory_of elements held) same) (all_ships_go es elements held reads (letters ++ one) room'))
 
   all_adds_go : (es : List Iteration) (elements : Element → V) (reads : List ReadTerm) (held : Element → V)
       → Goes k depth (memory_of elements held (all_letters g deals s elements es reads)) (flat_map (λ t. flat_map (event_in g deals s t) es) (map Add reads))
       (memory_of elements (fold (terms_held k s elements es) held reads) [])
-  all_adds_go es elements [] held = (tt, refl)
+  all_adds_go es elements [] held = goes_nowhere
   all_adds_go es elements (r ∷ reads) held =
-      let next = terms_held k s elements es held r in
-      let rest = all_letters g deals s elements es reads in
-      goes_append k depth (flat_map (event_in g deals s (Add r)) es) (flat_map (λ t. flat_map (event_in g deals s t) es) (map Add reads)) (memory_of elements held (all_letters g deals s elements es (r ∷ reads))) (memory_of elements next rest) (memory_of elements (fold (terms_held k s elements es) next reads) [])
-      (adds_go r elements es held rest) (all_adds_go es elements reads next)
+      goes_append (adds_go r elements es held (all_letters g deals s elements es reads)) (all_adds_go es elements reads (terms_held k s elements es held r))
 
   -- task by task over all iterations
   pub together_goes : (es : List Iteration) (elements held : Element → V) → Room depth (all_letters g deals s elements es s.reads)
       → Goes k depth (memory_of elements held []) (flat_map (λ t. flat_map (event_in g deals s t) es) (tasks_of s))
       (memory_of (all_stored s (values_held k s elements es held) elements es) (values_held k s elements es held) [])
   together_goes es elements held room =
-      let events : (List Task → List Event) = flat_map (λ t. flat_map (event_in g deals s t) es) in
+      let events : (Task → List Event) = λ t. flat_map (event_in g deals s t) es in
       let letters = all_letters g deals s elements es s.reads in
       let based = bases_held k s held es in
-      let full = values_held k s elements es held in
-      let start : Memory V = memory_of elements held [] in
-      let end : Memory V = memory_of (all_stored s full elements es) full [] in
       let adds : List Task = map Add s.reads ++ (Store ∷ []) in
-      let last : Goes k depth (memory_of elements full []) (events (Store ∷ [])) end =
-      goes_append k depth (flat_map (event_in g deals s Store) es) [] (memory_of elements full []) end end (stores_go es elements full []) (tt, refl) in
-      let summed : Goes k depth (memory_of elements based letters) (events adds) end =
-      goes_by k depth (events adds) (events (map Add s.reads) ++ events (Store ∷ [])) (memory_of elements based letters) end (flat_map-append (λ t. flat_map (event_in g deals s t) es) (map Add s.reads) (Store ∷ []))
-      (goes_append k depth (events (map Add s.reads)) (events (Store ∷ [])) (memory_of elements based letters) (memory_of elements full []) end (all_adds_go es elements s.reads based) last) in
-      goes_by k depth (events (tasks_of s)) (events (map Ship s.reads) ++ events (Base ∷ adds)) start end (flat_map-append (λ t. flat_map (event_in g deals s t) es) (map Ship s.reads) (Base ∷ adds))
-      (goes_append k depth (events (map Ship s.reads)) (events (Base ∷ adds)) start (memory_of elements held letters) end (all_ships_go es elements held s.reads [] room)
-      (goes_append k depth (flat_map (event_in g deals s Base) es) (events adds) (memory_of elements held letters) (memory_of elements based letters) end (bases_go es elements held letters) summed))
+      goes_by (flat_map-append events (map Ship s.reads) (Base ∷ adds))
+      (goes_append (all_ships_go es elements held s.reads [] room)
+      (goes_append (bases_go es elements held letters)
+      (goes_by (flat_map-append events (map Add s.reads) (Store ∷ []))
+      (goes_append (all_adds_go es elements s.reads based) (goes_append (stores_go es elements (values_held k s elements es held) []) goes_nowhere)))))
 
   -- in one iteration: the reads, each shipped and added, and the store
   reads_go : (e : Iteration) (elements : Element → V) (reads : List ReadTerm) (held : Element → V) → ((r : ReadTerm) → In r reads → Room depth (letter_of g deals s elements r e))
       → Goes k depth (memory_of elements held []) (flat_map (λ t. event_in g deals s t e) (flat_map (λ r. Ship r ∷ (Add r ∷ [])) reads ++ (Store ∷ [])))
       (memory_of (all_stored s (fold (terms_held k s elements (e ∷ [])) held reads) elements (e ∷ [])) (fold (terms_held k s elements (e ∷ [])) held reads) [])
-  reads_go e elements [] held room =
-      let end : Memory V = memory_of (all_stored s held elements (e ∷ [])) held [] in
-      goes_append k depth (event_in g deals s Store e) [] (memory_of elements held []) end end (store_goes k depth g deals s e elements held []) (tt, refl)
+  reads_go e elements [] held room = goes_append (store_goes k depth g deals s e elements held []) goes_nowhere
   reads_go e elements (r ∷ reads) held room =
       let one = letter_of g deals s elements r e in
-      let next = terms_held k s elements (e ∷ []) held r in
-      let full = fold (terms_held k s elements (e ∷ [])) next reads in
-      let rest = flat_map (λ t. event_in g deals s t e) (flat_map (λ r. Ship r ∷ (Add r ∷ [])) reads ++ (Store ∷ [])) in
-      let end : Memory V = memory_of (all_stored s full elements (e ∷ [])) full [] in
-      goes_append k depth (event_in g deals s (Ship r) e) (event_in g deals s (Add r) e ++ rest) (memory_of elements held []) (memory_of elements held one) end
+      goes_append
       (ship_goes k depth g deals s r e elements held []
       (ship_room depth [] [] (sender g deals r e) (receiver g deals s e) (elements (element_at r.source e)) (eqb (sender g deals r e) (receiver g deals s e)) (subst (Room depth) (sym (append-nil one)) (room r (inl refl)))))
-      (goes_append k depth (event_in g deals s (Add r) e) rest (memory_of elements held one) (memory_of elements next []) end
-      (goes_from k depth (event_in g deals s (Add r) e) (memory_of elements held one) (memory_of elements held (one ++ [])) (memory_of elements next []) (ap (memory_of elements held) (sym (append-nil one))) (add_goes k depth g deals s r e elements held []))
-      (reads_go e elements reads next (λ x m. room x (inr m))))
+      (goes_append (goes_from (ap (memory_of elements held) (sym (append-nil one))) (add_goes k depth g deals s r e elements held []))
+      (reads_go e elements reads (terms_held k s elements (e ∷ []) held r) (λ x m. room x (inr m))))
 
   -- one iteration whole
   pub iteration_goes : (e : Iteration) (elements held : Element → V) → ((r : ReadTerm) → In r s.reads → Room depth (letter_of g deals s elements r e))
       → Goes k depth (memory_of elements held []) (flat_map (λ t. event_in g deals s t e) (pass_tasks s))
       (memory_of (all_stored s (values_held k s elements (e ∷ []) held) elements (e ∷ [])) (values_held k s elements (e ∷ []) held) [])
-  iteration_goes e elements held room =
-      let based = bases_held k s held (e ∷ []) in
-      let full = values_held k s elements (e ∷ []) held in
-      goes_append k depth (event_in g deals s Base e) (flat_map (λ t. event_in g deals s t e) (flat_map (λ r. Ship r ∷ (Add r ∷ [])) s.reads ++ (Store ∷ []))) (memory_of elements held []) (memory_of elements based []) (memory_of (all_stored s full elements (e ∷ [])) full [])
-      (base_goes k depth g deals s e elements held []) (reads_go e elements s.reads based room)
+  iteration_goes e elements held room = goes_append (base_goes k depth g deals s e elements held []) (reads_go e elements s.reads (bases_held k s held (e ∷ [])) room)

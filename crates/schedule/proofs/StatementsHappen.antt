@@ -20,16 +20,15 @@ use Rattle.sequential.proofs.Kept.{Parts, parts_of}
 use Rattle.sequential.proofs.Targets.{targets_apart, target_below}
 use Rattle.sequential.proofs.ModeLaws.{each_in, modes_mean}
 use Rattle.compiler.specs.Spans.{seat}
-use Rattle.compiler.specs.Cells.{element_at}
 use Rattle.compiler.specs.Totals.{letters_in, between, room_for, statement_depth}
 use Rattle.compiler.proofs.OrderLaws.{owners_are_boards}
 use Rattle.schedule.specs.Boards.{written}
 use Rattle.schedule.specs.Memory.{Event, Memory}
-use Rattle.schedule.specs.Events.{event_in, pass_tasks, events_by, statement_events}
+use Rattle.schedule.specs.Events.{event_in, pass_tasks, events_by}
 use Rattle.schedule.specs.Start.{Agrees}
 use Rattle.schedule.specs.Laws.{StatementsHappen}
 use Rattle.schedule.proofs.ElementsThere.{target_there, read_there}
-use Rattle.schedule.proofs.EventsGo.{memory_of, memory_without, Goes, goes_append, goes_from}
+use Rattle.schedule.proofs.EventsGo.{memory_of, memory_without, Goes, goes_nowhere, goes_append, goes_from}
 use Rattle.schedule.proofs.WrittenValues.{agrees_written}
 use Rattle.schedule.proofs.TaskEvents.{target_at, letter_of}
 use Rattle.schedule.proofs.StatementPasses.{Room, all_stored, values_held, together_goes, iteration_goes}
@@ -68,7 +67,7 @@ module _ {V : Type 0} (k : Setting V) (depth g : ℕ) (deals : Deals) (s : Said)
       → (b : Buffers V) → length b.elements ≡ total k.arrays → length b.held ≡ total k.arrays
       → (elements held : Element → V) → Agrees k.arrays k.outside elements b.elements
       → Leads k depth (memory_of elements held []) (flat_map (λ e. flat_map (λ t. event_in g deals s t e) (pass_tasks s)) es) (fold (doing HoldAndStore k s) b es).elements
-  one_by_one [] within room b le lh elements held agrees = record { elements = elements; held = held; goes = (tt, refl); agrees = agrees }
+  one_by_one [] within room b le lh elements held agrees = record { elements = elements; held = held; goes = goes_nowhere; agrees = agrees }
   one_by_one (e ∷ es) within room b le lh elements held agrees =
       let m = within e (inl refl) in
       let next = hold_and_store k s b e in
@@ -82,8 +81,7 @@ module _ {V : Type 0} (k : Setting V) (depth g : ℕ) (deals : Deals) (s : Said)
       record {
         elements = rest.elements;
         held = rest.held;
-        goes = goes_append k depth (flat_map (λ t. event_in g deals s t e) (pass_tasks s)) (flat_map (λ e. flat_map (λ t. event_in g deals s t e) (pass_tasks s)) es) (memory_of elements held []) (memory_of stored full []) (memory_of rest.elements rest.held [])
-            (iteration_goes k depth g deals s e elements held (room elements e m)) rest.goes;
+        goes = goes_append (iteration_goes k depth g deals s e elements held (room elements e m)) rest.goes;
         agrees = rest.agrees;
       }
 
@@ -112,11 +110,9 @@ statements_happen V n deals kept fit sound plus times coefficients outside s wit
     let keeps = each_in (statement_kept n.arrays) n.statements s (nest_parts n.grid n.arrays n.sweeps n.statements kept).each_statement within in
     let stored = (modes_mean V n.arrays s keeps plus times coefficients outside b le lh).0 in
     let leads = leads_by k depth g deals s (parts_of n.arrays s keeps) s.mode (pair_has_room n.grid deals s (λ e l. owners_are_boards n deals kept fit sound s e within l)) b le lh stored m.elements m.held agrees in
-    let events = statement_events g deals s in
-    let end : Memory V = memory_of leads.elements leads.held [] in
-    let goes = goes_from k depth events m (memory_of m.elements m.held []) end (memory_without m none) leads.goes in
+    let goes = goes_from (memory_without m none) leads.goes in
     record {
-      can = goes.0;
-      without_letters = λ p q. ap (λ (x : Memory V). x.row p q) goes.1;
-      elements = λ e at. ap (λ (x : Memory V). x.elements e) goes.1 ∙ leads.agrees e at;
+      can = goes.can;
+      without_letters = λ p q. ap (λ (x : Memory V). x.row p q) goes.leads;
+      elements = λ e at. ap (λ (x : Memory V). x.elements e) goes.leads ∙ leads.agrees e at;
     }

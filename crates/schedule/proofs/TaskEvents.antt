@@ -41,25 +41,27 @@ module _ {V : Type 0} (k : Setting V) (depth g : ℕ) (deals : Deals) (s : Said)
       → Goes k depth (memory_of elements held letters) (event_in g deals s Base e) (memory_of elements (written (target_at s e) (coefficient_of k s.base) held) letters)
   unfolding happens
   base_goes e elements held letters =
-      goes_by k depth (event_in g deals s Base e) ((receiver g deals s e, holds s.base (target_at s e)) ∷ []) (memory_of elements held letters) (memory_of elements (written (target_at s e) (coefficient_of k s.base) held) letters)
-      (ap (λ t. event_for (receiver g deals s e) (cond t (holds s.base (target_at s e)) rests)) (eqb_same (receiver g deals s e))) ((tt, tt), refl)
+      goes_by (ap (λ t. event_for (receiver g deals s e) (cond t (holds s.base (target_at s e)) rests)) (eqb_same (receiver g deals s e)))
+      (record { can = (tt, tt); leads = refl })
 
   -- the store
   pub store_goes : (e : Iteration) (elements held : Element → V) (letters : List (Waiting V))
       → Goes k depth (memory_of elements held letters) (event_in g deals s Store e) (memory_of (written (target_at s e) (held (target_at s e)) elements) held letters)
   unfolding happens
   store_goes e elements held letters =
-      goes_by k depth (event_in g deals s Store e) ((receiver g deals s e, stores (target_at s e)) ∷ []) (memory_of elements held letters) (memory_of (written (target_at s e) (held (target_at s e)) elements) held letters)
-      (ap (λ t. event_for (receiver g deals s e) (cond t (stores (target_at s e)) rests)) (eqb_same (receiver g deals s e))) ((tt, tt), refl)
+      goes_by (ap (λ t. event_for (receiver g deals s e) (cond t (stores (target_at s e)) rests)) (eqb_same (receiver g deals s e)))
+      (record { can = (tt, tt); leads = refl })
 
   -- a ship between two boards
   shipped : (a b : ℕ) (x : Element) (elements held : Element → V) (letters : List (Waiting V)) (t : Bool)
       → (t ≡ false → length (rows_in letters a b) < depth)
       → Goes k depth (memory_of elements held letters) (event_for a (cond t rests (ships b x))) (memory_of elements held (letters ++ cond t [] ((a, b, elements x) ∷ [])))
   unfolding happens
-  shipped a b x elements held letters true room = (tt, ap (λ l. memory_of elements held l) (sym (append-nil letters)))
-  shipped a b x elements held letters false room =
-      ((room refl, tt), λ i. record { elements = elements; held = held; row = put_behind a b (elements x) letters i })
+  shipped a b x elements held letters true room = record { can = tt; leads = ap (memory_of elements held) (sym (append-nil letters)) }
+  shipped a b x elements held letters false room = record {
+    can = (room refl, tt);
+    leads = λ i. record { elements = elements; held = held; row = put_behind a b (elements x) letters i };
+  }
 
   -- a ship: its letter waits behind the others, where there is room for it
   pub ship_goes : (r : ReadTerm) (e : Iteration) (elements held : Element → V) (letters : List (Waiting V))
@@ -69,8 +71,7 @@ module _ {V : Type 0} (k : Setting V) (depth g : ℕ) (deals : Deals) (s : Said)
       let a = sender g deals r e in
       let b = receiver g deals s e in
       let x = element_at r.source e in
-      goes_by k depth (event_in g deals s (Ship r) e) (event_for a (cond (eqb a b) rests (ships b x))) (memory_of elements held letters) (memory_of elements held (letters ++ letter_of g deals s elements r e))
-      (ap (λ t. event_for a (cond t (cond (eqb b a) rests (ships b x)) rests)) (eqb_same a) ∙ ap (λ t. event_for a (cond t rests (ships b x))) (eqb_turned b a))
+      goes_by (ap (λ t. event_for a (cond t (cond (eqb b a) rests (ships b x)) rests)) (eqb_same a) ∙ ap (λ t. event_for a (cond t rests (ships b x))) (eqb_turned b a))
       (shipped a b x elements held letters (eqb a b) room)
 
   -- an add of a board's own element, or of the oldest letter of all that wait
@@ -78,14 +79,15 @@ module _ {V : Type 0} (k : Setting V) (depth g : ℕ) (deals : Deals) (s : Said)
       → Goes k depth (memory_of elements held (cond t [] ((a, b, elements x) ∷ []) ++ letters)) (event_for b (cond t (adds_own c x target) (adds_taken c a target)))
       (memory_of elements (written target (with_term k c (elements x) (held target)) held) letters)
   unfolding happens add_taken
-  added a b c x target elements held letters true = ((tt, tt), refl)
+  added a b c x target elements held letters true = record { can = (tt, tt); leads = refl }
   added a b c x target elements held letters false =
       let m : Memory V = memory_of elements held ((a, b, elements x) ∷ letters) in
-      let first = oldest_first a b (elements x) letters in (
-        (subst (λ (row : List V). 0 < length row) (sym first) (omega arith), tt),
-        ap (λ row. add_taken k m b c a target row) first
-            ∙ λ i. record { elements = elements; held = written target (with_term k c (elements x) (held target)) held; row = oldest_taken a b (elements x) letters i },
-      )
+      let first = oldest_first a b (elements x) letters in
+      record {
+        can = (subst (λ (row : List V). 0 < length row) (sym first) (omega arith), tt);
+        leads = ap (λ row. add_taken k m b c a target row) first
+            ∙ λ i. record { elements = elements; held = written target (with_term k c (elements x) (held target)) held; row = oldest_taken a b (elements x) letters i };
+      }
 
   -- an add: the letter of the read, if it has one, is the oldest of all that wait
   pub add_goes : (r : ReadTerm) (e : Iteration) (elements held : Element → V) (letters : List (Waiting V))
@@ -97,7 +99,5 @@ module _ {V : Type 0} (k : Setting V) (depth g : ℕ) (deals : Deals) (s : Said)
       let c = r.coefficient in
       let x = element_at r.source e in
       let target = target_at s e in
-      goes_by k depth (event_in g deals s (Add r) e) (event_for b (cond (eqb a b) (adds_own c x target) (adds_taken c a target)))
-      (memory_of elements held (letter_of g deals s elements r e ++ letters)) (memory_of elements (written target (term_added k elements r e (held target)) held) letters)
-      (ap (λ t. event_for b (cond t (cond (eqb a b) (adds_own c x target) (adds_taken c a target)) rests)) (eqb_same b))
+      goes_by (ap (λ t. event_for b (cond t (cond (eqb a b) (adds_own c x target) (adds_taken c a target)) rests)) (eqb_same b))
       (added a b c x target elements held letters (eqb a b))

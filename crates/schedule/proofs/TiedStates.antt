@@ -1,7 +1,7 @@
 -- One board of a network changes what it has, and one memory changes at an element of that board: they stay tied. Assumes nothing.
 use Rattle.std.proofs.Common.{◌≡◌, ℕ, Bool, true, false, cond, ◌&&◌, eqb, ◌≢◌, ◌⊎◌, List, sym, refl, ap, ◌∙◌, inl, inr}
 use mathlib.Core.Path.{fun_ext}
-use Rattle.std.proofs.lemmas.Bool.{cases_Bool, cases_eq, eqb-true, eq-eqb, and_parts, cond-true, cond-false}
+use Rattle.std.proofs.lemmas.Bool.{cases_eq, eq-eqb, cond-true}
 use Rattle.sections.specs.Order.{Element}
 use Rattle.network.specs.Request.{replaced, changed}
 use Rattle.network.proofs.Moves.{replaced_other}
