@@ -47,9 +47,11 @@ order_left_lem b st o s k h =
 pub place_left : (b : Seat) (n : Sheet) (orders : List Order) (s k : ℕ) → ltb k (length orders) ≡ true → has_cells (order_at orders k) ≡ true
     → todo_from b n orders (place_in n orders s k) ≡ sweeps_left b n orders s k
 place_left b n orders s k there cells =
-    ap (λ l. l ++ sweeps_left b n orders s (k + 1)) (order_left_lem b (statement_of n (order_at orders k)) (order_at orders k) s k cells)
-    ∙ sym (append_assoc (deeds_of b n (order_at orders k)) (flat_map (deeds_of b n) (drop (k + 1) orders)) (again (n.sweeps - (s + 1)) (flat_map (deeds_of b n) orders)))
-    ∙ ap (λ os. flat_map (deeds_of b n) os ++ again (n.sweeps - (s + 1)) (flat_map (deeds_of b n) orders)) (sym (drop_more orders k no_order (ltb-true k (length orders) there)))
+    let o = order_at orders k in
+    let later = again (n.sweeps - (s + 1)) (flat_map (deeds_of b n) orders) in
+    ap (λ l. l ++ sweeps_left b n orders s (k + 1)) (order_left_lem b (statement_of n o) o s k cells)
+    ∙ sym (append_assoc (deeds_of b n o) (flat_map (deeds_of b n) (drop (k + 1) orders)) later)
+    ∙ ap (λ os. flat_map (deeds_of b n) os ++ later) (sym (drop_more orders k no_order (ltb-true k (length orders) there)))
 
 -- the first number of a span that has one is the span's
 first_in : (a e : ℕ) → ltb a e ≡ true → (leb a a && ltb a e) ≡ true
@@ -59,11 +61,10 @@ first_in a e h = and_from (leb a a) (ltb a e) (le-leb a a (omega arith)) h
 pub place_in_lem : (n : Sheet) (orders : List Order) (s k : ℕ) → ltb s n.sweeps ≡ true → ltb k (length orders) ≡ true → has_cells (order_at orders k) ≡ true
     → in_program n orders (place_in n orders s k) ≡ true
 place_in_lem n orders s k early there cells =
-    let both = and_parts (ltb (order_at orders k).i.first (order_at orders k).i.end) (ltb (order_at orders k).j.first (order_at orders k).j.end) cells in
-    let i-in = first_in (order_at orders k).i.first (order_at orders k).i.end both.0 in
-    let j-in = first_in (order_at orders k).j.first (order_at orders k).j.end both.1 in
-    let task = task_there (statement_of n (order_at orders k)) (order_at orders k).work (place_in n orders s k).phase ∙ first_goes (order_at orders k).work (reads_of n (order_at orders k)) in
-    and_from _ _ (and_from _ _ early there) (and_from _ _ (and_from _ _ i-in j-in) task)
+    let o = order_at orders k in
+    let both = and_parts (ltb o.i.first o.i.end) (ltb o.j.first o.j.end) cells in
+    let task = task_there (statement_of n o) o.work (place_in n orders s k).phase ∙ first_goes o.work (reads_of n o) in
+    and_from _ _ (and_from _ _ early there) (and_from _ _ (and_from _ _ (first_in o.i.first o.i.end both.0) (first_in o.j.first o.j.end both.1)) task)
 
 -- a list so many times over begins with the list
 pub again_front : {X : Type 0} (m : ℕ) (xs : List X) → again m xs ++ xs ≡ xs ++ again m xs

@@ -20,6 +20,7 @@ pub record Placed (n : Sheet) (orders : List Order) (at : Place) : Type 0 where
 
 pub placed : (n : Sheet) (orders : List Order) (at : Place) → in_program n orders at ≡ true → Placed n orders at
 placed n orders at h =
+    let o = order_at orders at.order in
     let parts = and_parts _ _ h in
     let outer = and_parts _ _ parts.0 in
     let inner = and_parts _ _ parts.1 in
@@ -29,18 +30,18 @@ placed n orders at h =
     record {
       early = ltb-true at.sweep n.sweeps outer.0;
       there = ltb-true at.order (length orders) outer.1;
-      i_from = leb-true (order_at orders at.order).i.first at.i is.0;
-      i_below = ltb-true at.i (order_at orders at.order).i.end is.1;
-      j_from = leb-true (order_at orders at.order).j.first at.j js.0;
-      j_below = ltb-true at.j (order_at orders at.order).j.end js.1;
-      goes = sym (task_there (statement_of n (order_at orders at.order)) (order_at orders at.order).work at.phase) ∙ inner.1;
+      i_from = leb-true o.i.first at.i is.0;
+      i_below = ltb-true at.i o.i.end is.1;
+      j_from = leb-true o.j.first at.j js.0;
+      j_below = ltb-true at.j o.j.end js.1;
+      goes = sym (task_there (statement_of n o) o.work at.phase) ∙ inner.1;
     }
 
 -- and a place that keeps it is the program's
 pub from_placed : (n : Sheet) (orders : List Order) (at : Place) → Placed n orders at → in_program n orders at ≡ true
 from_placed n orders at p =
+    let o = order_at orders at.order in
     and_from _ _ (and_from _ _ (lt-ltb at.sweep n.sweeps p.early) (lt-ltb at.order (length orders) p.there))
     (and_from _ _
-    (and_from _ _ (and_from _ _ (le-leb (order_at orders at.order).i.first at.i p.i_from) (lt-ltb at.i (order_at orders at.order).i.end p.i_below))
-    (and_from _ _ (le-leb (order_at orders at.order).j.first at.j p.j_from) (lt-ltb at.j (order_at orders at.order).j.end p.j_below)))
-    (task_there (statement_of n (order_at orders at.order)) (order_at orders at.order).work at.phase ∙ p.goes))
+    (and_from _ _ (and_from _ _ (le-leb o.i.first at.i p.i_from) (lt-ltb at.i o.i.end p.i_below)) (and_from _ _ (le-leb o.j.first at.j p.j_from) (lt-ltb at.j o.j.end p.j_below)))
+    (task_there (statement_of n o) o.work at.phase ∙ p.goes))

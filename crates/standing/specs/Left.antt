@@ -14,7 +14,7 @@ use Rattle.compiler.specs.declared.span.Span.{Span}
 use Rattle.compiler.specs.declared.span.Owning.{Owning}
 use Rattle.compiler.specs.Spans.{Seat, deal_for, self_for, numbers_of, value_in}
 use Rattle.compiler.specs.Cells.{cell_of}
-use Rattle.compiler.specs.Deeds.{Deed, deed_in, tasks_in, order_deeds}
+use Rattle.compiler.specs.Deeds.{Deed, rests, deed_in, tasks_in, order_deeds}
 use Rattle.compiler.specs.Keeping.{statement_at}
 use Rattle.schedule.specs.Events.{again}
 use Rattle.standing.specs.declared.place.Phase.{Phase}
@@ -83,7 +83,8 @@ sweeps_left b n orders sweep k = flat_map (deeds_of b n) (drop k orders) ++ agai
 -- the steps left from where a board stands
 abbrev pub todo_from : Seat → Sheet → List Order → Place → List Deed
 todo_from b n orders at =
-    order_left b (statement_of n (order_at orders at.order)) (order_at orders at.order) at ++ sweeps_left b n orders at.sweep (at.order + 1)
+    let o = order_at orders at.order in
+    order_left b (statement_of n o) o at ++ sweeps_left b n orders at.sweep (at.order + 1)
 
 abbrev pub todo_of : Seat → Sheet → List Order → Option Place → List Deed
 todo_of b n orders (Some at) = todo_from b n orders at
@@ -93,7 +94,7 @@ todo_of b n orders None = []
 abbrev pub in_span : Span → ℕ → Bool
 in_span s n = nat_le s.first n && nat_lt n s.end
 
--- the maps have the rank at a number of an owned span
+-- the maps have the rank at a number of a span that is owned
 abbrev pub has_rank : Seat → Option Owning → ℕ → Bool
 has_rank b None n = true
 has_rank b (Some o) n = is_some (position_of (deal_for b o) (self_for b o) n)
@@ -105,11 +106,12 @@ in_order s o at = in_span o.i at.i && in_span o.j at.j && is_some (task_in s o.w
 
 abbrev pub in_program : Sheet → List Order → Place → Bool
 in_program n orders at =
-    nat_lt at.sweep n.sweeps && nat_lt at.order (length orders) && in_order (statement_of n (order_at orders at.order)) (order_at orders at.order) at
+    let o = order_at orders at.order in
+    nat_lt at.sweep n.sweeps && nat_lt at.order (length orders) && in_order (statement_of n o) o at
 
 -- and the maps have its ranks
 abbrev pub in_maps : Seat → List Order → Place → Bool
-in_maps b orders at = has_rank b (order_at orders at.order).i.owning at.i && has_rank b (order_at orders at.order).j.owning at.j
+in_maps b orders at = let o = order_at orders at.order in has_rank b o.i.owning at.i && has_rank b o.j.owning at.j
 
 -- where a board stands is known to program and maps; the end always is
 abbrev pub known : Seat → Sheet → List Order → Option Place → Bool
@@ -118,10 +120,11 @@ known b n orders None = true
 
 -- the step that comes next at a place, if its phase goes with the order's work
 abbrev pub deed_for : Seat → Said → Option Iteration → Option Task → Deed
-deed_for b s cell None = Rattle.compiler.specs.Deeds.rests
+deed_for b s cell None = rests
 deed_for b s cell (Some t) = deed_in b s cell t
 
 abbrev pub deed_at : Seat → Sheet → List Order → Place → Deed
 deed_at b n orders at =
-    deed_for b (statement_of n (order_at orders at.order)) (cell_in b (statement_of n (order_at orders at.order)) (order_at orders at.order) at.i at.j)
-    (task_in (statement_of n (order_at orders at.order)) (order_at orders at.order).work at.phase)
+    let o = order_at orders at.order in
+    let s = statement_of n o in
+    deed_for b s (cell_in b s o at.i at.j) (task_in s o.work at.phase)

@@ -63,13 +63,9 @@ reads_of n o = length (statement_of n o).reads
 
 -- the first place of an order
 abbrev pub place_in : Sheet → List Order → ℕ → ℕ → Place
-place_in n orders s k = record {
-  sweep = s;
-  order = k;
-  i = (order_at orders k).i.first;
-  j = (order_at orders k).j.first;
-  phase = first_phase (order_at orders k).work (reads_of n (order_at orders k));
-}
+place_in n orders s k =
+    let o = order_at orders k in
+    record { sweep = s; order = k; i = o.i.first; j = o.j.first; phase = first_phase o.work (reads_of n o) }
 
 -- the first step of the next cell of an order: of the row, else of the next row, else none
 abbrev pub cell_after : Order → ℕ → Place → Option Place
@@ -83,6 +79,7 @@ cell_after o reads at =
 -- the steps after a cell of an order: the rest of the row, of the order, of all sweeps
 abbrev pub after_cell : Seat → Sheet → List Order → Place → List Deed
 after_cell b n orders at =
-    (flat_map (cell_deeds b (statement_of n (order_at orders at.order)) (order_at orders at.order) at.i) (range_with_len (at.j + 1) ((order_at orders at.order).j.end - (at.j + 1)))
-    ++ flat_map (row_deeds b (statement_of n (order_at orders at.order)) (order_at orders at.order)) (range_with_len (at.i + 1) ((order_at orders at.order).i.end - (at.i + 1))))
+    let o = order_at orders at.order in
+    let s = statement_of n o in
+    (flat_map (cell_deeds b s o at.i) (range_with_len (at.j + 1) (o.j.end - (at.j + 1))) ++ flat_map (row_deeds b s o) (range_with_len (at.i + 1) (o.i.end - (at.i + 1))))
     ++ sweeps_left b n orders at.sweep (at.order + 1)
