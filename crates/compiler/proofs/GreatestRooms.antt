@@ -1,5 +1,5 @@
 -- The greatest room, pair by pair.
-use Rattle.std.proofs.Common.{◌≡◌, ℕ, zero, suc, ◌+◌, ◌*◌, ◌/◌, ◌%◌, ◌<◌, ◌≤◌, max, List, [], ◌∷◌, ◌++◌, map, get_or, fold, sym, refl, ap, ◌∙◌, ap₂, arith}
+use Rattle.std.proofs.Common.{◌≡◌, ℕ, zero, suc, ◌+◌, ◌<◌, ◌≤◌, max, List, [], ◌∷◌, ◌++◌, map, get_or, fold, sym, refl, ap, ◌∙◌, ap₂, arith}
 use Rattle.std.specs.List.{range_with_len, flat_map}
 use Rattle.std.proofs.lemmas.List.FromFn.{map-range_with_len_more, get_or-map-range_with_len}
 use Rattle.std.proofs.lemmas.List.{map-id, flat_map_more}
@@ -9,6 +9,7 @@ use Rattle.nest.specs.declared.terms.Mode.{Mode}
 use Rattle.sections.specs.Sections.{Deals}
 use Rattle.sequential.proofs.Turns.{folded_append}
 use Rattle.compiler.specs.Compiled.{pairs_of}
+use Rattle.compiler.specs.LetterCounts.{count_at}
 use Rattle.compiler.specs.PairRooms.{room_of, rooms_from, greatest_room}
 use Rattle.compiler.specs.Spans.{seat}
 use Rattle.compiler.specs.Totals.{boards_of, letters_in, between, room_for, greatest, statement_depth}
@@ -28,12 +29,12 @@ folded_joined_more f b row n before after so step =
     ∙ ap (fold f b) (flat_map_more row [] (range_with_len 0 n) n ∙ ap (flat_map row) (sym (counting_more n)))
 
 -- the rooms from one board more
-pub rooms_more : (mode : Mode) (boards : ℕ) (counts : List ℕ) (from to before after : ℕ) → to ≡ boards → before ≡ fold max 0 (flat_map (rooms_from mode boards counts) (range_with_len 0 from))
+pub rooms_more : (mode : Mode) (boards : ℕ) (counts : List (List ℕ)) (from to before after : ℕ) → to ≡ boards → before ≡ fold max 0 (flat_map (rooms_from mode boards counts) (range_with_len 0 from))
     → after ≡ fold max before (map (room_of mode counts from) (range_with_len 0 to)) → after ≡ fold max 0 (flat_map (rooms_from mode boards counts) (range_with_len 0 (from + 1)))
 rooms_more mode boards counts from to before after end so row =
     folded_joined_more max 0 (rooms_from mode boards counts) from before after so (row ∙ ap (λ n. fold max before (map (room_of mode counts from) (range_with_len 0 n))) end)
 
-pub rooms_all : (mode : Mode) (boards : ℕ) (counts : List ℕ) (from all : ℕ) → from ≡ boards → all ≡ fold max 0 (flat_map (rooms_from mode boards counts) (range_with_len 0 from)) → all ≡ greatest_room mode boards counts
+pub rooms_all : (mode : Mode) (boards : ℕ) (counts : List (List ℕ)) (from all : ℕ) → from ≡ boards → all ≡ fold max 0 (flat_map (rooms_from mode boards counts) (range_with_len 0 from)) → all ≡ greatest_room mode boards counts
 rooms_all mode boards counts from all end so = so ∙ ap (λ n. fold max 0 (flat_map (rooms_from mode boards counts) (range_with_len 0 n))) end
 
 -- what agrees at every number counted
@@ -46,7 +47,7 @@ joined_like f g a zero same = refl
 joined_like f g a (suc n) same = ap₂ (λ x xs. x ++ xs) (same a (omega arith) (omega arith)) (joined_like f g (a + 1) n (λ k l h. same k (omega arith) (omega arith)))
 
 -- the room of a statement, from its table of letters by pair
-pub depth_is : (n : Sheet) (deals : Deals) (s : Said) (boards : ℕ) (counts : List ℕ) → boards ≡ boards_of n.grid → boards ≤ 8 → counts ≡ pairs_of n deals s → greatest_room s.mode boards counts ≡ statement_depth n.grid deals s
+pub depth_is : (n : Sheet) (deals : Deals) (s : Said) (boards : ℕ) (counts : List (List ℕ)) → boards ≡ boards_of n.grid → boards ≤ 8 → counts ≡ pairs_of n deals s → greatest_room s.mode boards counts ≡ statement_depth n.grid deals s
 depth_is n deals s boards counts all few table =
     ap greatest (joined_like (rooms_from s.mode boards counts) (λ p. map (λ q. room_for s.mode (between p q letters)) (range_with_len 0 boards)) 0 boards rooms)
     ∙ ap (λ m. greatest (flat_map (λ p. map (λ q. room_for s.mode (between p q letters)) (range_with_len 0 m)) (range_with_len 0 m))) all
@@ -54,13 +55,11 @@ depth_is n deals s boards counts all few table =
     letters : List (ℕ × ℕ)
     letters = letters_in (seat n.grid.rows deals 0) s
 
-    number : (p q : ℕ) → p < 8 → q < 8 → get_or counts (8 * p + q) 0 ≡ between p q (letters_in (seat n.grid.rows deals 0) s)
+    number : (p q : ℕ) → p < 8 → q < 8 → count_at counts p q ≡ between p q (letters_in (seat n.grid.rows deals 0) s)
     number p q hp hq =
-        let row : (8 * p + q) / 8 ≡ p = omega arith in
-        let column : (8 * p + q) % 8 ≡ q = omega arith in
-        ap (λ t. get_or t (8 * p + q) 0) table
-        ∙ get_or-map-range_with_len (λ k. between (k / 8) (k % 8) (letters_in (seat n.grid.rows deals 0) s)) 0 64 (8 * p + q) (8 * p + q) 0 (omega arith) (omega arith)
-        ∙ ap₂ (λ a b. between a b (letters_in (seat n.grid.rows deals 0) s)) row column
+        ap (λ t. count_at t p q) table
+        ∙ ap (λ r. get_or r q 0) (get_or-map-range_with_len (λ a. map (λ b. between a b (letters_in (seat n.grid.rows deals 0) s)) (range_with_len 0 8)) 0 8 p p [] hp (omega arith))
+        ∙ get_or-map-range_with_len (λ b. between p b (letters_in (seat n.grid.rows deals 0) s)) 0 8 q q 0 hq (omega arith)
 
     rooms : (p : ℕ) → 0 ≤ p → p < 0 + boards → rooms_from s.mode boards counts p ≡ map (λ q. room_for s.mode (between p q (letters_in (seat n.grid.rows deals 0) s))) (range_with_len 0 boards)
     rooms p l h = map_like (room_of s.mode counts p) (λ q. room_for s.mode (between p q (letters_in (seat n.grid.rows deals 0) s))) 0 boards (λ q k g. ap (room_for s.mode) (number p q (omega arith) (omega arith)))

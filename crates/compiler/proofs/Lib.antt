@@ -15,6 +15,7 @@ pub mod StepNumbers
 pub mod CellCounts
 pub mod OrdersShort
 pub mod OwnerLookups
+pub mod LetterTables
 pub mod LetterNotes
 pub mod Tallying
 pub mod KeptStatements

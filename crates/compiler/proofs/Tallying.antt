@@ -1,10 +1,10 @@
 -- A count of letters against the list of them.
-use Rattle.std.proofs.Common.{◌≡◌, ℕ, ◌+◌, ◌*◌, ◌/◌, ◌%◌, ◌<◌, ◌≤◌, Bool, true, false, cond, ◌&&◌, eqb, List, [], ◌∷◌, ◌++◌, map, length, get_or, take, set, fold, filter, sym, refl, ap, ◌∙◌, subst, ap₂, inl, inr, ⊎_elim, append_assoc, arith}
+use Rattle.std.proofs.Common.{◌≡◌, ℕ, ◌+◌, ◌<◌, ◌≤◌, Bool, true, false, cond, ◌&&◌, eqb, List, [], ◌∷◌, ◌++◌, map, length, get_or, take, fold, filter, sym, refl, ap, ◌∙◌, subst, ap₂, inl, inr, ⊎_elim, append_assoc, arith}
 use Rattle.std.specs.List.{range_with_len, flat_map}
 use Rattle.std.proofs.lemmas.List.FromFn.{fill_by_all}
 use Rattle.std.proofs.lemmas.List.Elements.{filter-append}
-use Rattle.std.proofs.lemmas.List.{append-nil, get_or-replicate, take_all, take_more, flat_map_more, length-append, length-set, get_or-set_same, get_or-set_other}
-use Rattle.std.proofs.lemmas.Bool.{cases_eq, cases_Bool, and_parts, and_from, eq-eqb, eqb-true}
+use Rattle.std.proofs.lemmas.List.{append-nil, take_all, take_more, flat_map_more, length-append}
+use Rattle.std.proofs.lemmas.Bool.{cases_Bool, and_parts, and_from, eq-eqb, eqb-true}
 use Rattle.nest.specs.Terms.{Said}
 use Rattle.nest.specs.declared.terms.ReadTerm.{ReadTerm}
 use Rattle.sections.specs.Sections.{Deals}
@@ -15,14 +15,16 @@ use Rattle.sequential.specs.declared.iteration.Iteration.{Iteration}
 use Rattle.sequential.proofs.Targets.{in_iterations}
 use Rattle.compiler.specs.declared.letters.LetterCount.{LetterCount}
 use Rattle.compiler.specs.declared.owners.Owners.{Owners}
-use Rattle.compiler.specs.LetterCounts.{no_letters, one_more, noted, noting, AtMost}
+use Rattle.compiler.specs.LetterCounts.{no_letters, sent_by, count_at, Square, one_more, noted, noting, AtMost}
 use Rattle.compiler.specs.OwnerTables.{board_by, Tells}
 use Rattle.compiler.specs.Spans.{seat}
 use Rattle.compiler.specs.Totals.{letter_in, letters_for, letters_in, between}
+use Rattle.compiler.proofs.LetterTables.{cases_pair, put, put_square, put_here, put_elsewhere, nothing_square, nothing_at}
 
 -- a count has the number of each pair in a list of letters, and of all
 abbrev pub Tallied : LetterCount → List (ℕ × ℕ) → Type 0
-Tallied c letters = (length c.pairs.counts ≡ 64) × (c.letters ≡ length letters) × ((k : ℕ) → k < 64 → get_or c.pairs.counts k 0 ≡ between (k / 8) (k % 8) letters)
+Tallied c letters =
+    Square c.pairs.counts × (c.letters ≡ length letters) × ((p q : ℕ) → p < 8 → q < 8 → count_at c.pairs.counts p q ≡ between p q letters)
 
 -- the letter from p to q, if these are two boards
 letter_of : ℕ → ℕ → List (ℕ × ℕ)
@@ -38,38 +40,37 @@ between_push a b p q letters =
     ap length (filter-append test letters ((p, q) ∷ [])) ∙ length-append (filter test letters) (filter test ((p, q) ∷ []))
     ∙ ap (λ n. between a b letters + n) (length_if (eqb p a && eqb q b) (p, q))
 
--- the pair of place k is counted by the letter of that place
-same_place : (k p q : ℕ) → q < 8 → k ≡ 8 * p + q → (eqb p (k / 8) && eqb q (k % 8)) ≡ true
-same_place k p q h e = and_from (eqb p (k / 8)) (eqb q (k % 8)) (eq-eqb p (k / 8) (omega arith)) (eq-eqb q (k % 8) (omega arith))
+-- a pair is counted by its own letter alone
+same_pair : (x y p q : ℕ) → x ≡ p → y ≡ q → (eqb p x && eqb q y) ≡ true
+same_pair x y p q a b = and_from (eqb p x) (eqb q y) (eq-eqb p x (sym a)) (eq-eqb q y (sym b))
 
-other_place : (k p q : ℕ) → (k ≡ 8 * p + q → ⊥) → (eqb p (k / 8) && eqb q (k % 8)) ≡ false
-other_place k p q ne =
+other_pair : (x y p q : ℕ) → (x ≡ p → y ≡ q → ⊥) → (eqb p x && eqb q y) ≡ false
+other_pair x y p q ne =
     ⊎_elim
-    (λ t. let b = and_parts (eqb p (k / 8)) (eqb q (k % 8)) t in absurd (ne (omega (arith, eqb-true p (k / 8) b.0, eqb-true q (k % 8) b.1))))
+    (λ t. let b = and_parts (eqb p x) (eqb q y) t in absurd (ne (sym (eqb-true p x b.0)) (sym (eqb-true q y b.1))))
     (λ f. f)
-    (cases_Bool (eqb p (k / 8) && eqb q (k % 8)))
+    (cases_Bool (eqb p x && eqb q y))
 
 tallied_if : (t : Bool) (c : LetterCount) (letters : List (ℕ × ℕ)) (p q : ℕ) → p < 8 → q < 8 → Tallied c letters
     → Tallied (cond t c (record { pairs = one_more c.pairs p q; letters = c.letters + 1 })) (letters ++ cond t [] ((p, q) ∷ []))
 tallied_if true c letters p q hp hq a = rw append-nil a
 tallied_if false c letters p q hp hq a =
     let counts = c.pairs.counts in
-    let place : ℕ = 8 * p + q in
-    let v : ℕ = get_or counts place 0 + 1 in (
-      length-set counts place v ∙ a.0,
+    let v : ℕ = count_at counts p q + 1 in (
+      put_square counts p q v hp a.0,
       omega (arith, a.1, length-append letters ((p, q) ∷ [])),
-      λ k h.
-          let push = between_push (k / 8) (k % 8) p q letters in
+      λ x y hx hy.
+          let push = between_push x y p q letters in
           ⊎_elim
           (λ same.
-          let one : ◌≡◌ {A = ℕ} (cond (eqb p (k / 8) && eqb q (k % 8)) 1 0) 1 = ap (λ t. cond t 1 0) (same_place k p q hq same) in
-          let put : get_or (set counts place v) k 0 ≡ v = ap (λ n. get_or (set counts place v) n 0) same ∙ get_or-set_same counts place v 0 (omega (arith, a.0)) in
-          let was : get_or counts place 0 ≡ get_or counts k 0 = ap (λ n. get_or counts n 0) (sym same) in
-          omega (arith, push, one, put, was, a.2 k h))
+          let one : ◌≡◌ {A = ℕ} (cond (eqb p x && eqb q y) 1 0) 1 = ap (λ t. cond t 1 0) (same_pair x y p q same.0 same.1) in
+          let here : count_at (put counts p q v) x y ≡ v = ap₂ (count_at (put counts p q v)) same.0 same.1 ∙ put_here counts p q v hp a.0 hq in
+          let was : count_at counts p q ≡ count_at counts x y = ap₂ (count_at counts) (sym same.0) (sym same.1) in
+          omega (arith, push, one, here, was, a.2 x y hx hy))
           (λ ne.
-          let none : ◌≡◌ {A = ℕ} (cond (eqb p (k / 8) && eqb q (k % 8)) 1 0) 0 = ap (λ t. cond t 1 0) (other_place k p q ne) in
-          omega (arith, push, none, get_or-set_other counts place k v 0 ne, a.2 k h))
-          (cases_eq k place),
+          let none : ◌≡◌ {A = ℕ} (cond (eqb p x && eqb q y) 1 0) 0 = ap (λ t. cond t 1 0) (other_pair x y p q ne) in
+          omega (arith, push, none, put_elsewhere counts p q v hp a.0 x y ne, a.2 x y hx hy))
+          (cases_pair x y p q),
     )
 
 tallied_noted : (c : LetterCount) (letters : List (ℕ × ℕ)) (p q : ℕ) → p < 8 → q < 8 → Tallied c letters → Tallied (noted c p q) (letters ++ letter_of p q)
@@ -110,12 +111,14 @@ pub tallied_all : (q : ℕ) (deals : Deals) (s : Said) (items : List ReadTerm) (
 tallied_all q deals s items n c same end a = subst (λ l. Tallied c (flat_map (letters_for (seat q deals 0) s) l)) (take_all n items end ∙ same) a
 
 -- the table of all pairs
-pub tallied_pairs : (c : LetterCount) (letters : List (ℕ × ℕ)) → Tallied c letters → c.pairs.counts ≡ map (λ k. between (k / 8) (k % 8) letters) (range_with_len 0 64)
-tallied_pairs c letters a = fill_by_all (λ k. between (k / 8) (k % 8) letters) c.pairs.counts 64 0 a.0 a.2
+pub tallied_pairs : (c : LetterCount) (letters : List (ℕ × ℕ)) → Tallied c letters → c.pairs.counts ≡ map (λ p. map (λ q. between p q letters) (range_with_len 0 8)) (range_with_len 0 8)
+tallied_pairs c letters a =
+    fill_by_all (λ p. map (λ q. between p q letters) (range_with_len 0 8)) c.pairs.counts 8 [] a.0.0
+    (λ p hp. fill_by_all (λ q. between p q letters) (sent_by c.pairs.counts p) 8 0 (a.0.1 p hp) (λ q hq. a.2 p q hp hq))
 
 -- nothing is counted of no letters
 pub tallied_none : (c : LetterCount) → c ≡ no_letters → Tallied c []
-tallied_none c none = subst (λ n. Tallied n []) (sym none) (refl, refl, λ k h. get_or-replicate 64 k 0 0 h)
+tallied_none c none = subst (λ n. Tallied n []) (sym none) (nothing_square, refl, nothing_at)
 
 pub at_most_none : (c : LetterCount) → c ≡ no_letters → AtMost 0 c
-at_most_none c none = subst (AtMost 0) (sym none) (refl, omega arith, λ k h. omega (arith, get_or-replicate {A = ℕ} 64 k 0 0 h))
+at_most_none c none = subst (AtMost 0) (sym none) (nothing_square, omega arith, λ p q hp hq. omega (arith, nothing_at p q hp hq))

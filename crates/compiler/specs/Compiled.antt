@@ -1,5 +1,5 @@
 -- The program of a nest. Assumes nothing.
-use Rattle.std.specs.Prelude.{ℕ, ◌/◌, ◌%◌, List, map, vec_items}
+use Rattle.std.specs.Prelude.{ℕ, List, map, vec_items}
 use Rattle.std.specs.List.{range_with_len}
 use Rattle.nest.specs.Terms.{Said, Sheet}
 use Rattle.sections.specs.Sections.{Deals}
@@ -19,8 +19,8 @@ pub record OneBoard : Type 0 where
 pub record Compiled : Type 0 where
   pub nest : Sheet
   pub boards : List OneBoard
-  -- for each statement, the letters from p to q in one run of it, at 8 × p + q
-  pub letters_between : List (List ℕ)
+  -- for each statement and each of 8 senders, the letters to each of 8 receivers in one run of it
+  pub letters_between : List (List (List ℕ))
   pub steps : ℕ
   pub letters : ℕ
   pub depth : ℕ
@@ -29,12 +29,12 @@ pub record Compiled : Type 0 where
 abbrev pub one_board : BoardProgram → OneBoard
 one_board b = record { orders = vec_items b.orders; steps = b.steps }
 
-abbrev pub counts_of : PairLetters → List ℕ
+abbrev pub counts_of : PairLetters → List (List ℕ)
 counts_of t = t.counts
 
 -- the letters of one run of a statement by pairs
-abbrev pub pairs_of : Sheet → Deals → Said → List ℕ
-pairs_of n deals s = map (λ k. between (k / 8) (k % 8) (letters_in (seat n.grid.rows deals 0) s)) (range_with_len 0 64)
+abbrev pub pairs_of : Sheet → Deals → Said → List (List ℕ)
+pairs_of n deals s = map (λ p. map (λ q. between p q (letters_in (seat n.grid.rows deals 0) s)) (range_with_len 0 8)) (range_with_len 0 8)
 
 -- what board p has to do
 abbrev pub board_of : Sheet → Deals → ℕ → OneBoard

@@ -1,5 +1,5 @@
 -- What a program says. Assumes nothing.
-use Rattle.std.specs.Prelude.{ℕ, ◌+◌, ◌*◌, ◌<◌, List, [], map, length, get_or, vec_items, slice_index, slice_index_or}
+use Rattle.std.specs.Prelude.{ℕ, ◌<◌, List, [], map, length, get_or, vec_items, slice_index, slice_index_or}
 use Rattle.nest.specs.Nests.{shown}
 use Rattle.compiler.specs.declared.order.Order.{Order}
 use Rattle.compiler.specs.declared.program.Program.{Program}
@@ -32,4 +32,4 @@ PairThere c k p q = (k < length c.nest.statements) × (p < length c.boards) × (
 
 -- the letters from board p to board q in one run of statement k
 abbrev pub letters_between_boards : Compiled → ℕ → ℕ → ℕ → ℕ
-letters_between_boards c k p q = slice_index (slice_index_or c.letters_between k []) (8 * p + q)
+letters_between_boards c k p q = slice_index (slice_index_or (slice_index_or c.letters_between k []) p []) q

@@ -6,7 +6,6 @@ ghost use Rattle.compiler.specs.Programs.{compiled, orders_of, steps_on, PairThe
 use crate::order::Order;
 use crate::program::Program;
 use nest::nest::Nest;
-use owner_map::MOST_BOARDS;
 
 impl Program {
     /// The nest that was compiled.
@@ -20,22 +19,16 @@ impl Program {
     pub fn orders(&self, board: usize) -> Option<&[Order]>
         ensures { MatchOption result (length (compiled self.now).boards ≤ board) (λ o. (board < length (compiled self.now).boards) × (o.now ≡ orders_of (compiled self.now) board)) }
     {
-        let boards = self.boards.as_slice();
-        if board >= boards.len() {
-            return None;
-        }
-        Some(boards[board].orders.as_slice())
+        let program = self.boards.get(board)?;
+        Some(program.orders.as_slice())
     }
 
     /// The steps of a board in all sweeps; none where there is no such board.
     pub fn steps_on(&self, board: usize) -> Option<usize>
         ensures { MatchOption result (length (compiled self.now).boards ≤ board) (λ n. (board < length (compiled self.now).boards) × (n ≡ steps_on (compiled self.now) board)) }
     {
-        let boards = self.boards.as_slice();
-        if board >= boards.len() {
-            return None;
-        }
-        Some(boards[board].steps)
+        let program = self.boards.get(board)?;
+        Some(program.steps)
     }
 
     /// The letters that one board sends another in one run of a statement; none where there is no such statement or board.
@@ -46,11 +39,8 @@ impl Program {
         if from >= boards || to >= boards {
             return None;
         }
-        let tables = self.letters_between.as_slice();
-        if statement >= tables.len() {
-            return None;
-        }
-        Some(tables[statement].counts[MOST_BOARDS * from + to])
+        let table = self.letters_between.get(statement)?;
+        Some(table.counts[from][to])
     }
 
     /// The steps of all boards in all sweeps.

@@ -1,11 +1,11 @@
 // The depth that the post must have.
-ghost use Rattle.std.specs.Prelude.{◌≡◌, ◌≤◌, length};
+ghost use Rattle.std.specs.Prelude.{◌≡◌, ◌≤◌};
+ghost use Rattle.compiler.specs.LetterCounts.{Square};
 ghost use Rattle.compiler.specs.PairRooms.{greatest_room};
 ghost use Rattle.compiler.specs.Totals.{room_for};
 
 use crate::parts::PairLetters;
 use nest::terms::Mode;
-use owner_map::MOST_BOARDS;
 
 /// The room that the letters of one pair want in one run of a statement: for all at once, or for one after the other.
 fn room_for(mode: Mode, letters: usize) -> usize
@@ -19,13 +19,13 @@ fn room_for(mode: Mode, letters: usize) -> usize
 
 /// The room that a statement wants for the pair that wants most.
 pub(crate) fn greatest_room(mode: Mode, boards: usize, pairs: &PairLetters) -> usize
-    requires { (boards ≤ 8) × (length pairs.now.counts ≡ 64) }
+    requires { (boards ≤ 8) × Square pairs.now.counts }
     ensures { result ≡ greatest_room mode boards pairs.now.counts }
 {
     let mut greatest: usize = 0;
     for from in 0..boards {
         for to in 0..boards {
-            let room = room_for(mode, pairs.counts[MOST_BOARDS * from + to]);
+            let room = room_for(mode, pairs.counts[from][to]);
             greatest = greatest.max(room);
         }
     }

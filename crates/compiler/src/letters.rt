@@ -30,7 +30,9 @@ impl LetterCount {
         ensures { result ≡ no_letters }
     {
         LetterCount {
-            pairs: PairLetters { counts: [0; 64] },
+            pairs: PairLetters {
+                counts: [[0; MOST_BOARDS]; MOST_BOARDS],
+            },
             letters: 0,
         }
     }
@@ -41,7 +43,7 @@ impl LetterCount {
         ensures { self.new ≡ noted self.old from to }
     {
         if from != to {
-            self.pairs.counts[MOST_BOARDS * from + to] += 1;
+            self.pairs.counts[from][to] += 1;
             self.letters += 1;
         }
     }

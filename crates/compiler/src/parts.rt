@@ -1,5 +1,6 @@
 // The parts of a program.
 use crate::order::Order;
+use owner_map::MOST_BOARDS;
 
 /// What one board has to do in a sweep, and the steps that this takes in all sweeps.
 #[derive(Drop)]
@@ -8,8 +9,8 @@ pub struct BoardProgram {
     pub steps: usize,
 }
 
-/// How many letters each board sends each other in one run of a statement: those from p to q stand at 8 × p + q.
+/// How many letters each board sends each other in one run of a statement: a row for each sender, by receiver.
 #[derive(Clone, Copy)]
 pub struct PairLetters {
-    pub counts: [usize; 64],
+    pub counts: [[usize; MOST_BOARDS]; MOST_BOARDS],
 }

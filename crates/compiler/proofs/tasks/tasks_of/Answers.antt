@@ -1,29 +1,26 @@
-use Rattle.std.proofs.Common.{◌≡◌, List, [], ◌∷◌, ◌++◌, map, vec_items, sym, refl, ap, ◌∙◌, append_assoc, append-nil}
+use Rattle.std.proofs.Common.{◌≡◌, List, [], ◌∷◌, ◌++◌, map, Some, vec_items, rules, tests, ◌∙◌, append_assoc}
+use Rattle.std.proofs.lemmas.Iterator.{YieldsList-from_slice, YieldsList-from_map, items_from_collect}
+use Rattle.std.proofs.lemmas.Iterator.Adapters.{YieldsList-from_once}
+use Rattle.std.proofs.lemmas.Iterator.Consumers.{YieldsList-at, YieldsList-from_chain}
+use Rattle.std.proofs.lemmas.Result.{IfOk-weaker}
 use Rattle.nest.specs.declared.terms.ReadTerm.{ReadTerm}
+use Rattle.compiler.specs.declared.order.Task.{Task}
 use Rattle.compiler.specs.declared.order.Task.TheVariants.{Ship, Base, Add, Store}
-use Rattle.compiler.proofs.Pushing.{mapped_more, mapped_all}
 use Rattle.compiler.proofs.tasks.tasks_of.Goals as goal
 
--- the tasks in order, put together by pushes
+-- the tasks in order, as the chain joins them
 together : (reads : List ReadTerm) → ((map Ship reads ++ Base ∷ []) ++ map Add reads) ++ Store ∷ [] ≡ map Ship reads ++ (Base ∷ (map Add reads ++ (Store ∷ [])))
 together reads = simp append_assoc
 
-pub loop-shipped-preserved : goal.loop-shipped-preserved
-loop-shipped-preserved c =
-    mapped_more Ship [] c.as_slice-reads.result.now c.loop-shipped.shipped-index _ (vec_items c.loop-shipped.tasks) (vec_items c.push.new.self) _ c.loop-shipped-test.true c.in_ok-push.ensures.items refl c.loop-shipped.invariant
-
-pub loop-added-init : goal.loop-added-init
-loop-added-init c =
-    let all = mapped_all Ship [] c.as_slice-reads.result.now c.loop-shipped.shipped-index (vec_items c.loop-shipped.tasks) c.loop-shipped-test.false c.loop-shipped.invariant in
-    c.in_ok-push-2.ensures.items ∙ ap (λ us. us ++ Base ∷ []) all ∙ sym (append-nil (map Ship c.as_slice-reads.result.now ++ Base ∷ []))
-
-pub loop-added-preserved : goal.loop-added-preserved
-loop-added-preserved c =
-    let reads = c.as_slice-reads.result.now in
-    mapped_more Add (map Ship reads ++ Base ∷ []) reads c.loop-added.added-index _ (vec_items c.loop-added.tasks) (vec_items c.push-in-loop-added.new.self) _ c.loop-added-test.true c.in_ok-push-3.ensures.items refl c.loop-added.invariant
-
 pub returns : goal.returns
 returns c =
-    let reads = c.as_slice-reads.result.now in
-    let all = mapped_all Add (map Ship reads ++ Base ∷ []) reads c.loop-added.added-index (vec_items c.loop-added.tasks) c.loop-added-test.false c.loop-added.invariant in
-    c.in_ok-push-4.ensures.items ∙ ap (λ us. us ++ Store ∷ []) all ∙ together reads ∙ ap (λ rs. map Ship rs ++ (Base ∷ (map Add rs ++ (Store ∷ [])))) c.as_slice-reads.ensures.value
+    let reads : List ReadTerm = vec_items c.args.statement.now.reads in
+    IfOk-weaker c.collect.result _ _ (λ v e. e ∙ together reads)
+    (items_from_collect c.collect.result c.collect.ensures.ran
+    (YieldsList-from_chain
+    (YieldsList-at c.chain-3.ensures.first (YieldsList-from_chain
+    (YieldsList-at c.chain-2.ensures.first (YieldsList-from_chain
+    (YieldsList-at c.chain.ensures.first (YieldsList-from_map _ Ship (YieldsList-from_slice reads cc) c.map-ships.ensures.closure (λ x r q k. search (rules, tests))))
+    (YieldsList-at c.chain.ensures.second (YieldsList-from_once (Some Base) c.once.ensures.item)) (cc) (cc)))
+    (YieldsList-at c.chain-2.ensures.second (YieldsList-from_map _ Add (YieldsList-from_slice reads cc) c.map-adds.ensures.closure (λ x r q k. search (rules, tests)))) (cc) (cc)))
+    (YieldsList-at c.chain-3.ensures.second (YieldsList-from_once (Some Store) c.once-2.ensures.item)) (cc) (cc)))
