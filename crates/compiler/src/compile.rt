@@ -1,6 +1,5 @@
 // The program of a nest.
-ghost use Rattle.std.specs.Prelude.{◌≡◌, ◌≤◌, map, length, IfOk, sum_by, OnOk};
-ghost use Rattle.std.specs.List.{AllByRecursion};
+ghost use Rattle.std.specs.Prelude.{◌≡◌, ◌<◌, ◌^◌, map, IfOk, sum_by, OnOk};
 ghost use Rattle.nest.specs.Nests.{shown};
 ghost use Rattle.sections.specs.Sections.{Fits, dealt};
 ghost use Rattle.compiler.specs.Answer.{Answered};
@@ -21,14 +20,10 @@ use std::alloc::{AllocError, Global};
 
 /// The steps of all boards.
 fn all_steps(boards: &[BoardProgram]) -> usize
-    requires { (length boards.now ≤ 8) × (AllByRecursion (λ b. b.steps ≤ 871200000) boards.now) }
+    requires { sum_by (λ b. b.steps) boards.now < 2 ^ 64 }
     ensures { result ≡ sum_by (λ b. b.steps) boards.now }
 {
-    let mut steps = 0;
-    for board in boards {
-        steps += board.steps;
-    }
-    steps
+    boards.iter().map(|board| board.steps).sum()
 }
 
 /// The program of a nest whose maps fit it.

@@ -63,6 +63,7 @@ fn steps_of(orders: &[Order], statements: &[Statement]) -> usize
     ensures small { result ≤ 871200 }
 {
     let mut steps = 0;
+    // Kept: a sum over a chain asks the bound of each order once more, as a lemma beside what `order_steps` ensures.
     for order in orders {
         steps += order_steps(*order, statements);
     }

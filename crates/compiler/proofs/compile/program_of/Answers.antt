@@ -1,5 +1,5 @@
-use Rattle.std.proofs.Common.{◌≤◌, map, length, vec_items, sum_by, sym, ap, ◌∙◌, subst, arith}
-use Rattle.std.specs.List.{AllByRecursion}
+use Rattle.std.proofs.Common.{map, vec_items, sum_by, ap, ◌∙◌, arith}
+use Rattle.std.proofs.ByRecursion.{sum_by_le}
 use Rattle.nest.specs.Nests.{shown}
 use Rattle.nest.specs.Terms.{Sheet}
 use Rattle.sections.specs.Sections.{Deals, dealt}
@@ -13,10 +13,8 @@ all_steps-steps-requires g c =
     let sheet : Sheet = shown c.args.nest.now in
     let deals : Deals = dealt (map g.R.OwnerMap.meaning c.args.row_maps.now) (map g.C.OwnerMap.meaning c.args.column_maps.now) in
     let boards = c.in_ok-boards.ensures in
-    let few = few_boards sheet deals (vec_items c.in_ok-boards.boards) boards.whole c.args.nest.now.kept in (
-      omega (arith, few, ap length c.as_slice.ensures.value),
-      subst (AllByRecursion (λ (b : BoardProgram). b.steps ≤ 871200000)) (sym c.as_slice.ensures.value) boards.small,
-    )
+    let few = few_boards sheet deals (vec_items c.in_ok-boards.boards) boards.whole c.args.nest.now.kept in
+    omega (arith, few, sum_by_le (λ (b : BoardProgram). b.steps) 871200000 (vec_items c.in_ok-boards.boards) boards.small, ap (sum_by (λ (b : BoardProgram). b.steps)) c.as_slice.ensures.value)
 
 pub invariant_of-result : goal.invariant_of-result
 invariant_of-result g c =
