@@ -6,14 +6,11 @@ use Rattle.std.proofs.lemmas.List.{length-map}
 use Rattle.nest.specs.Sound.{nest_kept}
 use Rattle.nest.specs.Terms.{Sheet}
 use Rattle.nest.proofs.Keeps.{grid_parts_lem, nest_parts}
-use Rattle.owner_map.specs.Meaning.{Deal, Sound}
-use Rattle.sections.specs.Sections.{Deals, dealt}
-use Rattle.sections.proofs.MapsFit.{maps_sound}
+use Rattle.sections.specs.Sections.{Deals}
 use Rattle.compiler.specs.declared.parts.BoardProgram.{BoardProgram}
 use Rattle.compiler.specs.declared.parts.PairLetters.{PairLetters}
 use Rattle.compiler.specs.Compiled.{OneBoard, Compiled, one_board, counts_of, pairs_of, board_of}
 use Rattle.compiler.specs.Keeping.{program_kept}
-use Rattle.compiler.specs.Laws.{AllSound}
 use Rattle.compiler.specs.Totals.{boards_of, steps_of}
 use Rattle.compiler.proofs.ListSums.{sums_map}
 use Rattle.compiler.proofs.ProgramKept.{program_kept_lem}
@@ -44,7 +41,3 @@ module _ (n : Sheet) (deals : Deals) where
   pub tables_all : (m : Sheet) → m ≡ n → (tables : List PairLetters) → map counts_of tables ≡ map (pairs_of n deals) n.statements → length tables ≡ length m.statements
   tables_all m same tables whole =
       sym (length-map tables counts_of) ∙ ap length whole ∙ length-map n.statements (pairs_of n deals) ∙ ap (λ x. length x.statements) (sym same)
-
--- the deals of maps are sound
-pub deals_sound : {X Y : Type 0} (f : X → Deal) (h : Y → Deal) → ((x : X) → Sound (f x)) → ((y : Y) → Sound (h y)) → (xs : List X) (ys : List Y) → AllSound (dealt (map f xs) (map h ys))
-deals_sound f h fs hs xs ys t l k = let s = maps_sound f h fs hs xs ys in (s.0 t l, s.1 t k)

@@ -1,14 +1,20 @@
 -- What a statement that keeps its ranges brings for a count of its letters.
-use Rattle.std.proofs.Common.{◌≡◌, ℕ, ◌<◌, ◌≤◌, true, not, ◌&&◌, leb, List, length, get_or}
+use Rattle.std.proofs.Common.{◌≡◌, ℕ, ◌<◌, ◌≤◌, true, not, ◌&&◌, leb, List, length, get_or, subst}
 use Rattle.std.proofs.lemmas.Bool.{and_parts, leb-true}
-use Rattle.nest.specs.Terms.{Said}
-use Rattle.nest.specs.Sound.{each, range_kept, access_kept, is_i, read_kept, statement_kept}
+use Rattle.nest.specs.Nests.{shown}
+use Rattle.nest.specs.Terms.{Said, Sheet}
+use Rattle.nest.specs.declared.nest.Nest.{Nest}
+use Rattle.nest.specs.Sound.{each, range_kept, access_kept, is_i, read_kept, statement_kept, nest_kept}
 use Rattle.nest.specs.declared.terms.Array.{Array}
 use Rattle.nest.specs.declared.terms.Range.{Range}
 use Rattle.nest.specs.declared.terms.ReadTerm.{ReadTerm}
 use Rattle.sequential.proofs.Kept.{parts_of, target_reached, read_reached}
 use Rattle.compiler.specs.LetterCounts.{Short, ShortRanges}
 use Rattle.compiler.specs.OwnerTables.{Reaches}
+
+-- a nest keeps its ranges, by whatever name it is known
+pub nest_kept_as : (n : Nest) (m : Sheet) → shown n ≡ m → nest_kept m.grid m.arrays m.sweeps m.statements ≡ true
+nest_kept_as n m e = subst (λ (x : Sheet). nest_kept x.grid x.arrays x.sweeps x.statements ≡ true) e n.kept
 
 range_short : (r : Range) → range_kept r ≡ true → Short r
 range_short r k =

@@ -1,5 +1,5 @@
 -- Letters noted one by one are those of the statement.
-use Rattle.std.proofs.Common.{◌≡◌, ℕ, ◌+◌, ◌-◌, ◌*◌, ◌<◌, ◌≤◌, Bool, true, false, cond, eqb, ◌∙◌, ap₂, ⊎_elim, arith}
+use Rattle.std.proofs.Common.{◌≡◌, ℕ, ◌+◌, ◌-◌, ◌<◌, ◌≤◌, Bool, true, false, cond, eqb, ◌∙◌, ap₂, ⊎_elim, arith}
 use Rattle.sequential.specs.declared.iteration.Iteration.{Iteration}
 use Rattle.compiler.specs.declared.letters.LetterCount.{LetterCount}
 use Rattle.compiler.specs.declared.owners.Owners.{Owners}

@@ -6,7 +6,6 @@ pub mod CellParts
 pub mod ListSums
 pub mod StepCounts
 pub mod OrderLaws
-pub mod MapsAsked
 pub mod SpansReach
 pub mod Pushing
 pub mod OrdersGrow

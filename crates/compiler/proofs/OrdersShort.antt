@@ -4,18 +4,18 @@ use Rattle.std.specs.List.{AllByRecursion}
 use Rattle.std.proofs.ByRecursion.{All-map, All-weaker, sum_by_le}
 use Rattle.std.proofs.lemmas.List.{length-map}
 use Rattle.std.proofs.lemmas.Bool.{and_parts, leb-true}
-use Rattle.nest.specs.Sound.{each, array_kept, read_kept, statement_kept, nest_kept}
-use Rattle.nest.specs.Terms.{position, nowhere, Said, Sheet}
+use Rattle.nest.specs.Sound.{each, array_kept, read_kept, statement_kept}
+use Rattle.nest.specs.Terms.{position, nowhere, Said}
 use Rattle.nest.specs.declared.terms.Array.{Array}
 use Rattle.nest.specs.declared.terms.Mode.{Mode}
 use Rattle.nest.specs.declared.terms.Mode.TheVariants.{All as AllAtOnce, Seq}
 use Rattle.nest.specs.declared.terms.Range.{Range}
-use Rattle.nest.proofs.Keeps.{each_at, array_parts, nest_parts}
-use Rattle.owner_map.specs.Meaning.{Deal, extent}
+use Rattle.nest.proofs.Keeps.{NestParts, each_at, array_parts, nest_parts}
+use Rattle.owner_map.specs.Meaning.{extent}
 use Rattle.owner_map.specs.Deals.{below_le}
 use Rattle.dealing.specs.declared.dimension.Dimension.{Dimension}
 use Rattle.dealing.specs.declared.dimension.Dimension.TheVariants.{Rows, Columns}
-use Rattle.sections.specs.Sections.{dealt}
+use Rattle.sections.specs.DealtNests.{DealtNest}
 use Rattle.compiler.specs.declared.span.Owning.{Owning}
 use Rattle.compiler.specs.Spans.{Seat, deal_in, deal_for, self_for, span_of}
 use Rattle.compiler.specs.Orders.{numbered, tasks_of, task_order, orders_by, orders_for, board_orders}
@@ -51,55 +51,58 @@ numbered_pass f a (x ∷ xs) k =
       All-weaker _ _ (λ kx h. (omega (arith, h.0), h.1)) (numbered (a + 1) xs) (numbered_pass f (a + 1) xs q.1),
     )
 
-module _ (n : Sheet) (kept : nest_kept n.grid n.arrays n.sweeps n.statements ≡ true) (rows columns : List Deal) (p : ℕ) (seated : Seated n rows columns p) where
+module _ (d : DealtNest) (p : ℕ) (seated : Seated d p) where
   abbrev board : Seat
-  board = seat_in n rows columns p
+  board = seat_in d p
+
+  parts : NestParts d.nest.grid d.nest.arrays d.nest.sweeps d.nest.statements
+  parts = nest_parts d.nest.grid d.nest.arrays d.nest.sweeps d.nest.statements seated.kept
 
   -- no dimension has more than 32 positions
-  deal_small : (d : Dimension) (t : ℕ) → t < length n.arrays → extent (deal_in d (dealt rows columns) t) ≤ 32
+  deal_small : (v : Dimension) (t : ℕ) → t < length d.nest.arrays → extent (deal_in v d.deals t) ≤ 32
   deal_small Rows t l =
-      let a = array_parts (get_or n.arrays t nowhere) (each_at array_kept n.arrays (nest_parts n.grid n.arrays n.sweeps n.statements kept).each_array t nowhere l) in
-      omega (arith, a.rows.1, (seated.0.2 t l).0.1)
+      let a = array_parts (get_or d.nest.arrays t nowhere) (each_at array_kept d.nest.arrays parts.each_array t nowhere l) in
+      omega (arith, a.rows.1, (seated.fits.2 t l).0.1)
   deal_small Columns t l =
-      let a = array_parts (get_or n.arrays t nowhere) (each_at array_kept n.arrays (nest_parts n.grid n.arrays n.sweeps n.statements kept).each_array t nowhere l) in
-      omega (arith, a.columns.1, (seated.0.2 t l).1.1)
+      let a = array_parts (get_or d.nest.arrays t nowhere) (each_at array_kept d.nest.arrays parts.each_array t nowhere l) in
+      omega (arith, a.columns.1, (seated.fits.2 t l).1.1)
 
   span_short : (k : Option Owning) (r : Range) → Spannable board k r → (span_of board k r).end ≤ 33
   span_short None r h = omega arith
   span_short (Some o) r h =
-      omega (arith, below_le (deal_for board o) (self_for board o) (position o.subscript r.high + 1), deal_small o.dimension o.array (omega (arith, h.2.1, seated.0.0)))
+      omega (arith, below_le (deal_for board o) (self_for board o) (position o.subscript r.high + 1), deal_small o.dimension o.array (omega (arith, h.2.1, seated.fits.0)))
 
   -- the orders of a statement
-  module _ (m k : ℕ) (s : Said) (below : k < m) (of-nest : statement_kept n.arrays s ≡ true) where
+  module _ (m k : ℕ) (s : Said) (below : k < m) (of-nest : statement_kept d.nest.arrays s ≡ true) where
     orders_short : (mode : Mode) → AllByRecursion (Short m) (orders_by mode board k s)
     orders_short AllAtOnce =
         All-map (Short m) (task_order board k s) (tasks_of s)
-        (All-weaker (Orderable board s) _ (λ t h. (below, span_short _ s.i h.0, span_short _ s.j h.1)) (tasks_of s) (tasks_orderable n rows columns p seated s of-nest))
+        (All-weaker (Orderable board s) _ (λ t h. (below, span_short _ s.i h.0, span_short _ s.j h.1)) (tasks_of s) (tasks_orderable d p seated s of-nest))
     orders_short Seq =
-        let h = plain_spannable n rows columns p seated s of-nest in
+        let h = plain_spannable d p seated s of-nest in
         ((below, span_short None s.i h.0, span_short None s.j h.1), tt)
 
     orders_few : (mode : Mode) → length (orders_by mode board k s) ≤ 10
-    orders_few AllAtOnce = omega (arith, length-map (tasks_of s) (task_order board k s), length_tasks s, few_reads n.arrays s of-nest)
+    orders_few AllAtOnce = omega (arith, length-map (tasks_of s) (task_order board k s), length_tasks s, few_reads d.nest.arrays s of-nest)
     orders_few Seq = omega arith
 
-  numbered_kept : AllByRecursion (λ ks. (ks.0 < 0 + length n.statements) × (statement_kept n.arrays ks.1 ≡ true)) (numbered 0 n.statements)
-  numbered_kept = numbered_pass (statement_kept n.arrays) 0 n.statements (nest_parts n.grid n.arrays n.sweeps n.statements kept).each_statement
+  numbered_kept : AllByRecursion (λ ks. (ks.0 < 0 + length d.nest.statements) × (statement_kept d.nest.arrays ks.1 ≡ true)) (numbered 0 d.nest.statements)
+  numbered_kept = numbered_pass (statement_kept d.nest.arrays) 0 d.nest.statements parts.each_statement
 
-  all_few : length (board_orders board n.statements) ≤ 80
+  all_few : length (board_orders board d.nest.statements) ≤ 80
   all_few =
-      let some = (nest_parts n.grid n.arrays n.sweeps n.statements kept).some_statements in
-      let each-short = All-weaker _ (λ ks. length (orders_for board ks) ≤ 10) (λ ks h. orders_few (0 + length n.statements) ks.0 ks.1 h.0 h.1 ks.1.mode) (numbered 0 n.statements) numbered_kept in
-      omega (arith, length_joined (orders_for board) (numbered 0 n.statements), sum_by_le (λ ks. length (orders_for board ks)) 10 (numbered 0 n.statements) each-short, length_numbered 0 n.statements, some.1)
+      let some = parts.some_statements in
+      let each-short = All-weaker _ (λ ks. length (orders_for board ks) ≤ 10) (λ ks h. orders_few (0 + length d.nest.statements) ks.0 ks.1 h.0 h.1 ks.1.mode) (numbered 0 d.nest.statements) numbered_kept in
+      omega (arith, length_joined (orders_for board) (numbered 0 d.nest.statements), sum_by_le (λ ks. length (orders_for board ks)) 10 (numbered 0 d.nest.statements) each-short, length_numbered 0 d.nest.statements, some.1)
 
   -- all orders of a board
-  pub board_orders_few : FewOrders n.statements (board_orders board n.statements)
+  pub board_orders_few : FewOrders d.nest.statements (board_orders board d.nest.statements)
   board_orders_few =
-      let none : 0 + length n.statements ≡ length n.statements = omega arith in (
+      let none : 0 + length d.nest.statements ≡ length d.nest.statements = omega arith in (
         all_few,
-        all_joined (orders_for board) (Short (length n.statements)) (numbered 0 n.statements)
-            (All-weaker _ _ (λ ks h. orders_short (length n.statements) ks.0 ks.1 (omega (arith, h.0)) h.1 ks.1.mode) (numbered 0 n.statements) numbered_kept),
+        all_joined (orders_for board) (Short (length d.nest.statements)) (numbered 0 d.nest.statements)
+            (All-weaker _ _ (λ ks h. orders_short (length d.nest.statements) ks.0 ks.1 (omega (arith, h.0)) h.1 ks.1.mode) (numbered 0 d.nest.statements) numbered_kept),
       )
 
-  pub statements_few : FewReads n.statements
-  statements_few = each_few n.arrays n.statements (nest_parts n.grid n.arrays n.sweeps n.statements kept).each_statement
+  pub statements_few : FewReads d.nest.statements
+  statements_few = each_few d.nest.arrays d.nest.statements parts.each_statement

@@ -1,18 +1,19 @@
 -- The spans of a kept statement can be made: every position that a loop range reaches lies in its deal. Assumes nothing.
-use Rattle.std.proofs.Common.{◌≡◌, ℕ, zero, suc, ◌+◌, ◌*◌, ◌/◌, ◌%◌, ◌<◌, ◌≤◌, Bool, true, false, cond, not, leb, List, [], ◌∷◌, map, get_or, refl, ap, ◌∙◌, mul_comm, zero-mul, arith, Option, Some, None}
+use Rattle.std.proofs.Common.{◌≡◌, ℕ, zero, suc, ◌+◌, ◌*◌, ◌/◌, ◌%◌, ◌<◌, ◌≤◌, Bool, true, false, cond, not, leb, List, [], ◌∷◌, map, length, get_or, refl, ap, ◌∙◌, mul_comm, zero-mul, arith, Option, Some, None}
 use Rattle.std.proofs.lemmas.Nat.{div_below, mod_below}
 use Rattle.std.proofs.ByRecursion.{All-append}
 use Rattle.std.proofs.lemmas.Bool.{and_parts}
 use Rattle.nest.specs.Sound.{each, range_kept, access_kept, is_i, read_kept, statement_kept}
-use Rattle.nest.specs.Terms.{position, range_of, inside, nowhere, Said, Sheet}
+use Rattle.nest.specs.Terms.{position, range_of, inside, nowhere, Said}
 use Rattle.nest.specs.declared.terms.Access.{Access}
 use Rattle.nest.specs.declared.terms.Range.{Range}
 use Rattle.nest.specs.declared.terms.ReadTerm.{ReadTerm}
 use Rattle.nest.specs.declared.terms.Subscript.{Subscript}
 use Rattle.nest.specs.declared.terms.Variable.{Variable}
 use Rattle.nest.specs.declared.terms.Variable.TheVariants.{I, J}
-use Rattle.owner_map.specs.Meaning.{Deal, extent}
-use Rattle.sections.specs.Sections.{dealt, rows_of, columns_of}
+use Rattle.owner_map.specs.Meaning.{Deal, Board, Bound, extent}
+use Rattle.sections.specs.DealtNests.{DealtNest}
+use Rattle.sections.specs.Sections.{rows_of, columns_of}
 use Rattle.sequential.specs.Iterations.{variable_in, position_in}
 use Rattle.sequential.specs.Ready.{Within}
 use Rattle.sequential.specs.declared.iteration.Iteration.{Iteration}
@@ -22,7 +23,7 @@ use Rattle.compiler.specs.declared.span.Owning.{Owning}
 use Rattle.compiler.specs.declared.order.Task.TheVariants.{Ship, Base, Add}
 use Rattle.compiler.specs.Spans.{Seat, owning_by, same_variable, moves_with, ship_owning}
 use Rattle.compiler.specs.Orders.{tasks_of}
-use Rattle.compiler.specs.Making.{seat_in, Seated, Answerable, Spannable, Orderable, AllOrderable}
+use Rattle.compiler.specs.Making.{seat_in, Seated, Spannable, Orderable, AllOrderable}
 
 -- which variable a test found
 is_i_lem : (v : Variable) → is_i v ≡ true → v ≡ I
@@ -52,16 +53,16 @@ spannable_cond : (b : Seat) (t : Bool) (k l : Option Owning) (r : Range) → (t 
 spannable_cond b true k l r h o = h refl
 spannable_cond b false k l r h o = o
 
--- positions from 1 to the extent can be asked for
-answerable : (d : Deal) (boards size b low high : ℕ) → b < boards → d.boards ≡ boards → extent d ≡ size → 1 ≤ low → low ≤ size → high ≤ size → Answerable d b low (high + 1)
-answerable d boards size b low high l eb es one up to = (omega arith, (omega arith, omega arith), (omega arith, omega arith))
+-- positions from 1 to the extent, and one past them, are bounds
+bounds : (d : Deal) (boards size b low high : ℕ) → b < boards → d.boards ≡ boards → extent d ≡ size → 1 ≤ low → low ≤ size → high ≤ size → Board d b × Bound d low × Bound d (high + 1)
+bounds d boards size b low high l eb es one up to = (omega arith, (omega arith, omega arith), (omega arith, omega arith))
 
-module _ (n : Sheet) (rows columns : List Deal) (p : ℕ) (seated : Seated n rows columns p) (s : Said) (kept : statement_kept n.arrays s ≡ true) where
+module _ (d : DealtNest) (p : ℕ) (seated : Seated d p) (s : Said) (kept : statement_kept d.nest.arrays s ≡ true) where
   abbrev board : Seat
-  board = seat_in n rows columns p
+  board = seat_in d p
 
-  parts : Parts n.arrays s
-  parts = parts_of n.arrays s kept
+  parts : Parts d.nest.arrays s
+  parts = parts_of d.nest.arrays s kept
 
   -- the first iteration and the last
   abbrev lowest : Iteration
@@ -105,39 +106,45 @@ module _ (n : Sheet) (rows columns : List Deal) (p : ℕ) (seated : Seated n row
     ends_inside : (size : ℕ) (x : Subscript) → x.variable ≡ v → inside s.i s.j size x ≡ true
         → (1 ≤ position x range.low) × (position x range.low ≤ size) × (position x range.high ≤ size)
     ends_inside size x e k =
-        let a = inside_at n.arrays s parts lowest lowest_within size x k in
-        let b = inside_at n.arrays s parts highest highest_within size x k in
+        let a = inside_at d.nest.arrays s parts lowest lowest_within size x k in
+        let b = inside_at d.nest.arrays s parts highest highest_within size x k in
         let first : position_in x lowest ≡ position x range.low = ap (λ w. position x (variable_in w lowest)) e ∙ ap (position x) (at_lowest v) in
         let last : position_in x highest ≡ position x range.high = ap (λ w. position x (variable_in w highest)) e ∙ ap (position x) (at_highest v) in
         (omega arith, omega arith, omega arith)
 
-    module _ (least : ℕ) (a : Access) (k : access_kept least n.arrays s.i s.j a ≡ true) where
+    module _ (least : ℕ) (a : Access) (k : access_kept least d.nest.arrays s.i s.j a ≡ true) where
       -- an access by its rows, if they go by the variable
       pub rows_spannable : a.row.variable ≡ v → Spannable board (Some (owning_by Rows a)) range
       rows_spannable e =
-          let q = access_parts least n.arrays s.i s.j a k in
+          let q = access_parts least d.nest.arrays s.i s.j a k in
           let f = factor_of least a.row q.row in
-          let fit = (seated.0.2 a.array q.there).0 in
-          let on = ends_inside (get_or n.arrays a.array nowhere).rows a.row e q.rows in
-          let some : 1 ≤ n.grid.rows = row_some n.grid.rows n.grid.columns p seated.1 in
-          let b : p % n.grid.rows < n.grid.rows = mod_below p n.grid.rows some in (
+          let fit = (seated.fits.2 a.array q.there).0 in
+          let on = ends_inside (get_or d.nest.arrays a.array nowhere).rows a.row e q.rows in
+          let some : 1 ≤ d.nest.grid.rows = row_some d.nest.grid.rows d.nest.grid.columns p seated.there in
+          let b : p % d.nest.grid.rows < d.nest.grid.rows = mod_below p d.nest.grid.rows some in
+          let array : (a.array < length d.deals.rows) × (a.array < length d.deals.columns) = (omega (arith, q.there, seated.fits.0), omega (arith, q.there, seated.fits.1)) in
+          let asked = bounds (rows_of d.deals a.array) d.nest.grid.rows _ (p % d.nest.grid.rows) _ _ b fit.0 fit.1 on.0 on.1 on.2 in (
             (f.1, small_range.0, f.2),
             (f.1, small_range.1, f.2),
-            (some, omega (arith, q.there, seated.0.0), omega (arith, q.there, seated.0.1), answerable (rows_of (dealt rows columns) a.array) n.grid.rows _ (p % n.grid.rows) _ _ b fit.0 fit.1 on.0 on.1 on.2),
+            (some, array.0, array.1, asked.0, asked.1),
+            (some, array.0, array.1, asked.0, asked.2),
           )
 
       -- by its columns
       pub columns_spannable : a.column.variable ≡ v → Spannable board (Some (owning_by Columns a)) range
       columns_spannable e =
-          let q = access_parts least n.arrays s.i s.j a k in
+          let q = access_parts least d.nest.arrays s.i s.j a k in
           let f = factor_of least a.column q.column in
-          let fit = (seated.0.2 a.array q.there).1 in
-          let on = ends_inside (get_or n.arrays a.array nowhere).columns a.column e q.columns in
-          let some : 1 ≤ n.grid.rows = row_some n.grid.rows n.grid.columns p seated.1 in
-          let b : p / n.grid.rows < n.grid.columns = div_below p n.grid.rows n.grid.columns some (omega (arith, seated.1, mul_comm n.grid.rows n.grid.columns)) in (
+          let fit = (seated.fits.2 a.array q.there).1 in
+          let on = ends_inside (get_or d.nest.arrays a.array nowhere).columns a.column e q.columns in
+          let some : 1 ≤ d.nest.grid.rows = row_some d.nest.grid.rows d.nest.grid.columns p seated.there in
+          let b : p / d.nest.grid.rows < d.nest.grid.columns = div_below p d.nest.grid.rows d.nest.grid.columns some (omega (arith, seated.there, mul_comm d.nest.grid.rows d.nest.grid.columns)) in
+          let array : (a.array < length d.deals.rows) × (a.array < length d.deals.columns) = (omega (arith, q.there, seated.fits.0), omega (arith, q.there, seated.fits.1)) in
+          let asked = bounds (columns_of d.deals a.array) d.nest.grid.columns _ (p / d.nest.grid.rows) _ _ b fit.0 fit.1 on.0 on.1 on.2 in (
             (f.1, small_range.0, f.2),
             (f.1, small_range.1, f.2),
-            (some, omega (arith, q.there, seated.0.0), omega (arith, q.there, seated.0.1), answerable (columns_of (dealt rows columns) a.array) n.grid.columns _ (p / n.grid.rows) _ _ b fit.0 fit.1 on.0 on.1 on.2),
+            (some, array.0, array.1, asked.0, asked.1),
+            (some, array.0, array.1, asked.0, asked.2),
           )
 
       -- as the ship of a read goes by it
@@ -147,9 +154,9 @@ module _ (n : Sheet) (rows columns : List Deal) (p : ℕ) (seated : Seated n row
           (spannable_cond board (moves_with v a.column) _ _ range (λ t. columns_spannable (moves_same v a.column t)) small_range.1)
 
   -- the ship of a read
-  pub ship_orderable : (r : ReadTerm) → read_kept n.arrays s.i s.j r ≡ true → Orderable board s (Ship r)
+  pub ship_orderable : (r : ReadTerm) → read_kept d.nest.arrays s.i s.j r ≡ true → Orderable board s (Ship r)
   ship_orderable r k =
-      let a = (and_parts (leb r.coefficient 7) (access_kept 0 n.arrays s.i s.j r.source) k).1 in
+      let a = (and_parts (leb r.coefficient 7) (access_kept 0 d.nest.arrays s.i s.j r.source) k).1 in
       (ship_spannable I 0 r.source a, ship_spannable J 0 r.source a)
 
   -- any other task
@@ -164,10 +171,10 @@ module _ (n : Sheet) (rows columns : List Deal) (p : ℕ) (seated : Seated n row
   plain_spannable = ((small_range I).1, (small_range J).1)
 
   -- all tasks
-  ships_orderable : (reads : List ReadTerm) → each (read_kept n.arrays s.i s.j) reads ≡ true → AllOrderable board s (map Ship reads)
+  ships_orderable : (reads : List ReadTerm) → each (read_kept d.nest.arrays s.i s.j) reads ≡ true → AllOrderable board s (map Ship reads)
   ships_orderable [] k = tt
   ships_orderable (r ∷ reads) k =
-      let q = and_parts (read_kept n.arrays s.i s.j r) (each (read_kept n.arrays s.i s.j) reads) k in
+      let q = and_parts (read_kept d.nest.arrays s.i s.j r) (each (read_kept d.nest.arrays s.i s.j) reads) k in
       (ship_orderable r q.0, ships_orderable reads q.1)
 
   adds_orderable : (reads : List ReadTerm) → AllOrderable board s (map Add reads)

@@ -8,11 +8,12 @@ use Rattle.nest.specs.declared.terms.Statement.{Statement}
 use Rattle.compiler.specs.StepCounts.{read_counts, FewReads}
 
 -- how many reads the statement at an index has
-pub reads_at : (items : List Statement) (k : ℕ) (x : Statement) (r : ℕ) → k < length items → FewReads (map said items) → r ≡ vec_len (get_or items k x).reads
-    → (r ≡ get_or (read_counts (map said items)) k 0) × (r ≤ 4)
-reads_at items k x r l few e =
-    let there : k < length (map said items) = omega (arith, length-map items said) in
-    let at : length (get_or (map said items) k (said x)).reads ≡ length (vec_items (get_or items k x).reads) = ap (λ s. length s.reads) (get_or-map said items k x (said x) l) in
-    let small : length (get_or (map said items) k (said x)).reads ≤ 4 = All-get_or (λ s. length s.reads ≤ 4) (map said items) k (said x) there few in
+pub reads_at : (items : List Statement) (ss : List Said) → map said items ≡ ss → (k : ℕ) (x : Statement) (r : ℕ) → k < length ss → FewReads ss → r ≡ vec_len (get_or items k x).reads
+    → (r ≡ get_or (read_counts ss) k 0) × (r ≤ 4)
+reads_at items ss same k x r there few e =
+    let l : k < length items = omega (arith, there, ap length same, length-map items said) in
+    let at : length (get_or ss k (said x)).reads ≡ length (vec_items (get_or items k x).reads) =
+    ap (λ us. length (get_or us k (said x)).reads) (sym same) ∙ ap (λ s. length s.reads) (get_or-map said items k x (said x) l) in
+    let small : length (get_or ss k (said x)).reads ≤ 4 = All-get_or (λ s. length s.reads ≤ 4) ss k (said x) there few in
     let long : vec_len (get_or items k x).reads ≡ length (vec_items (get_or items k x).reads) = (get_or items k x).reads.ok.0 in
-    (e ∙ long ∙ sym at ∙ sym (get_or-map (λ (s : Said). length s.reads) (map said items) k (said x) 0 there), omega (arith, at, small, long, e))
+    (e ∙ long ∙ sym at ∙ sym (get_or-map (λ (s : Said). length s.reads) ss k (said x) 0 there), omega (arith, at, small, long, e))

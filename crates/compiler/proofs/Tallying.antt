@@ -87,7 +87,7 @@ tallied_iterations q deals s r source target by-source by-target (e ∷ es) with
     let w = within e (inl refl) in
     let from = by-source e w in
     let to = by-target e w in
-    let one = tallied_noted c letters (board_by source e) (board_by target e) from.0.4 to.0.4 a in
+    let one = tallied_noted c letters (board_by source e) (board_by target e) from.0.2 to.0.2 a in
     let letter : letter_of (board_by source e) (board_by target e) ≡ letter_in (seat q deals 0) s r e = ap₂ letter_of from.1 to.1 in
     let so = tallied_iterations q deals s r source target by-source by-target es (λ x m. within x (inr m)) (noting source target c e) (letters ++ letter_of (board_by source e) (board_by target e)) one in
     subst (λ t. Tallied (fold (noting source target) c (e ∷ es)) (letters ++ (t ++ flat_map (letter_in (seat q deals 0) s r) es))) letter

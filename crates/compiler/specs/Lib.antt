@@ -15,3 +15,4 @@ pub mod Laws
 pub mod Worked
 pub mod Making
 pub mod StepCounts
+pub mod Seats

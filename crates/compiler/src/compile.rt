@@ -1,7 +1,7 @@
 // The program of a nest.
-ghost use Rattle.std.specs.Prelude.{◌≡◌, ◌<◌, ◌^◌, map, IfOk, sum_by, OnOk};
+ghost use Rattle.std.specs.Prelude.{◌≡◌, ◌≤◌, map, IfOk, sum_by, OnOk};
 ghost use Rattle.nest.specs.Nests.{shown};
-ghost use Rattle.sections.specs.Sections.{Fits, dealt};
+ghost use Rattle.sections.specs.Sections.{dealt};
 ghost use Rattle.compiler.specs.Answer.{Answered};
 ghost use Rattle.compiler.specs.Compiled.{program_of};
 ghost use Rattle.compiler.specs.Laws.{OrdersCoverTheNest};
@@ -15,33 +15,27 @@ use crate::program::Program;
 use crate::refusal::CompileRefusal;
 use nest::nest::Nest;
 use owner_map::OwnerMap;
-use sections::maps_fit;
+use sections::Fitted;
 use std::alloc::{AllocError, Global};
 
 /// The steps of all boards.
 fn all_steps(boards: &[BoardProgram]) -> usize
-    requires { sum_by (λ b. b.steps) boards.now < 2 ^ 64 }
+    requires { sum_by (λ b. b.steps) boards.now ≤ 6969600000 }
     ensures { result ≡ sum_by (λ b. b.steps) boards.now }
 {
     boards.iter().map(|board| board.steps).sum()
 }
 
-/// The program of a nest whose maps fit it.
-fn program_of<R: OwnerMap, C: OwnerMap>(
-    heap: Global,
-    nest: &Nest,
-    row_maps: &[R],
-    column_maps: &[C],
-) -> Result<Program, AllocError>
-    requires { Fits (shown nest.now).grid (shown nest.now).arrays (dealt (map R.OwnerMap.meaning row_maps.now) (map C.OwnerMap.meaning column_maps.now)) }
-    ensures { IfOk result (λ p. compiled p ≡ program_of (shown nest.now) (dealt (map R.OwnerMap.meaning row_maps.now) (map C.OwnerMap.meaning column_maps.now))) }
+/// The program of a nest whose arrays are dealt out.
+fn program_of(heap: Global, fitted: &Fitted) -> Result<Program, AllocError>
+    ensures { IfOk result (λ p. compiled p ≡ program_of fitted.now.nest fitted.now.deals) }
 {
-    let copy = copy_of(heap, nest)?;
-    let boards = board_programs(heap, nest, row_maps, column_maps)?;
-    let totals = letters_of(nest, row_maps, column_maps, heap)?;
+    let nest = copy_of(heap, fitted.nest())?;
+    let boards = board_programs(heap, fitted)?;
+    let totals = letters_of(heap, fitted)?;
     let steps = all_steps(boards.as_slice());
     Ok(Program {
-        nest: copy,
+        nest,
         boards,
         letters_between: totals.pairs,
         steps,
@@ -60,8 +54,8 @@ pub fn compile<R: OwnerMap, C: OwnerMap>(
     ensures answer { Answered (shown nest.now) (dealt (map R.OwnerMap.meaning row_maps.now) (map C.OwnerMap.meaning column_maps.now)) result }
     ensures laws { OnOk result (OrdersCoverTheNest (shown nest.now) (dealt (map R.OwnerMap.meaning row_maps.now) (map C.OwnerMap.meaning column_maps.now))) }
 {
-    if !maps_fit(nest, row_maps, column_maps) {
+    let Ok(fitted) = Fitted::new(nest, row_maps, column_maps) else {
         return Err(CompileRefusal::MapsDiffer);
-    }
-    Ok(program_of(heap, nest, row_maps, column_maps)?)
+    };
+    Ok(program_of(heap, &fitted)?)
 }

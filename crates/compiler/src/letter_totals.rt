@@ -1,15 +1,12 @@
 // The letters of a nest, and the room that they want.
 ghost use Rattle.std.specs.Prelude.{◌≡◌, map, IfOk};
-ghost use Rattle.nest.specs.Nests.{shown};
-ghost use Rattle.sections.specs.Sections.{Fits, dealt};
 ghost use Rattle.compiler.specs.Compiled.{counts_of, pairs_of};
 ghost use Rattle.compiler.specs.Totals.{letters_of, depth_of};
 
 use crate::depth::greatest_room;
 use crate::letters::letters_in;
 use crate::parts::PairLetters;
-use nest::nest::Nest;
-use owner_map::OwnerMap;
+use sections::Fitted;
 use std::alloc::{AllocError, Global};
 
 /// The letters of one run of each statement by pair, those of all sweeps, and the depth that the post must have.
@@ -20,18 +17,13 @@ pub(crate) struct LetterTotals {
     pub(crate) depth: usize,
 }
 
-/// Counts the letters of a nest whose arrays are dealt out by maps that fit it.
-pub(crate) fn letters_of<R: OwnerMap, C: OwnerMap>(
-    nest: &Nest,
-    row_maps: &[R],
-    column_maps: &[C],
-    heap: Global,
-) -> Result<LetterTotals, AllocError>
-    requires { Fits (shown nest.now).grid (shown nest.now).arrays (dealt (map R.OwnerMap.meaning row_maps.now) (map C.OwnerMap.meaning column_maps.now)) }
-    ensures pairs { IfOk result (λ t. map counts_of t.pairs.items ≡ map (pairs_of (shown nest.now) (dealt (map R.OwnerMap.meaning row_maps.now) (map C.OwnerMap.meaning column_maps.now))) (shown nest.now).statements) }
-    ensures letters { IfOk result (λ t. t.letters ≡ letters_of (shown nest.now) (dealt (map R.OwnerMap.meaning row_maps.now) (map C.OwnerMap.meaning column_maps.now))) }
-    ensures depth { IfOk result (λ t. t.depth ≡ depth_of (shown nest.now) (dealt (map R.OwnerMap.meaning row_maps.now) (map C.OwnerMap.meaning column_maps.now))) }
+/// Counts the letters of a nest whose arrays are dealt out.
+pub(crate) fn letters_of(heap: Global, fitted: &Fitted) -> Result<LetterTotals, AllocError>
+    ensures pairs { IfOk result (λ t. map counts_of t.pairs.items ≡ map (pairs_of fitted.now.nest fitted.now.deals) fitted.now.nest.statements) }
+    ensures letters { IfOk result (λ t. t.letters ≡ letters_of fitted.now.nest fitted.now.deals) }
+    ensures depth { IfOk result (λ t. t.depth ≡ depth_of fitted.now.nest fitted.now.deals) }
 {
+    let nest = fitted.nest();
     let grid = nest.grid();
     let boards = grid.rows * grid.columns;
     let statements = nest.statements();
@@ -39,7 +31,7 @@ pub(crate) fn letters_of<R: OwnerMap, C: OwnerMap>(
     let mut letters = 0;
     let mut depth: usize = 0;
     for statement in statements {
-        let count = letters_in(nest, row_maps, column_maps, statement);
+        let count = letters_in(fitted, statement);
         let room = greatest_room(statement.mode, boards, &count.pairs);
         letters += count.letters;
         depth = depth.max(room);

@@ -1,20 +1,18 @@
 // The letters of one run of a statement, counted.
-ghost use Rattle.std.specs.Prelude.{◌≡◌, ℕ, ◌+◌, ◌<◌, true, map, length, fold};
-ghost use Rattle.nest.specs.Nests.{shown};
+ghost use Rattle.std.specs.Prelude.{◌≡◌, ℕ, ◌+◌, ◌<◌, true, length, fold};
 ghost use Rattle.nest.specs.Sound.{statement_kept};
 ghost use Rattle.nest.specs.Views.{said};
 ghost use Rattle.sequential.specs.Iterations.{iterations};
-ghost use Rattle.sections.specs.Sections.{Fits, dealt};
 ghost use Rattle.compiler.specs.Compiled.{pairs_of};
-ghost use Rattle.compiler.specs.Spans.{seat};
+ghost use Rattle.compiler.specs.Making.{seat_in};
 ghost use Rattle.compiler.specs.Totals.{letters_in};
 ghost use Rattle.compiler.specs.LetterCounts.{no_letters, noted, noting, AtMost, BothAnswer, ShortRanges};
 
 use crate::owners::{Owners, owners_of};
 use crate::parts::PairLetters;
-use nest::nest::Nest;
 use nest::terms::Statement;
-use owner_map::{MOST_BOARDS, OwnerMap};
+use owner_map::MOST_BOARDS;
+use sections::Fitted;
 use sequential::iteration::Iteration;
 
 /// How many letters there are, by pair and in all.
@@ -66,23 +64,17 @@ fn note_read(count: &mut LetterCount, source: &Owners, target: &Owners, statemen
 }
 
 /// Counts the letters of one run of a statement, read by read.
-pub(crate) fn letters_in<R: OwnerMap, C: OwnerMap>(
-    nest: &Nest,
-    row_maps: &[R],
-    column_maps: &[C],
-    statement: &Statement,
-) -> LetterCount
-    requires fits { Fits (shown nest.now).grid (shown nest.now).arrays (dealt (map R.OwnerMap.meaning row_maps.now) (map C.OwnerMap.meaning column_maps.now)) }
-    requires kept { statement_kept (shown nest.now).arrays (said statement.now) ≡ true }
-    ensures pairs { result.pairs.counts ≡ pairs_of (shown nest.now) (dealt (map R.OwnerMap.meaning row_maps.now) (map C.OwnerMap.meaning column_maps.now)) (said statement.now) }
-    ensures all { result.letters ≡ length (letters_in (seat (shown nest.now).grid.rows (dealt (map R.OwnerMap.meaning row_maps.now) (map C.OwnerMap.meaning column_maps.now)) 0) (said statement.now)) }
+pub(crate) fn letters_in(fitted: &Fitted, statement: &Statement) -> LetterCount
+    requires { statement_kept fitted.now.nest.arrays (said statement.now) ≡ true }
+    ensures pairs { result.pairs.counts ≡ pairs_of fitted.now.nest fitted.now.deals (said statement.now) }
+    ensures all { result.letters ≡ length (letters_in (seat_in fitted.now 0) (said statement.now)) }
     ensures room { AtMost 4096 result }
 {
-    let target = owners_of(nest, row_maps, column_maps, statement, statement.put);
+    let target = owners_of(fitted, statement, statement.put);
     let mut count = LetterCount::none();
     let reads = statement.reads.as_slice();
     for read in reads {
-        let source = owners_of(nest, row_maps, column_maps, statement, read.source);
+        let source = owners_of(fitted, statement, read.source);
         note_read(&mut count, &source, &target, statement);
     }
     count

@@ -1,23 +1,22 @@
 // The orders of a board.
 ghost use Rattle.std.specs.Prelude.{◌≡◌, ◌++◌, map, None, IfOk, OnOk};
-ghost use Rattle.nest.specs.Nests.{shown};
 ghost use Rattle.nest.specs.Views.{said};
-ghost use Rattle.compiler.specs.Making.{Orderable, AllOrderable, KeptIn, Seated, Spannable, seat_in};
+ghost use Rattle.compiler.specs.Making.{Orderable, AllOrderable, KeptIn, Spannable};
 ghost use Rattle.compiler.specs.Orders.{board_orders, orders_for, task_order, walk_order};
+ghost use Rattle.compiler.specs.Seats.{seat_of, statements_of};
 
 use crate::order::{Order, Task, Work};
 use crate::owning::{i_owning, j_owning};
 use crate::tasks::tasks_of;
 use crate::view::BoardView;
 use nest::terms::{Mode, Statement};
-use owner_map::OwnerMap;
 use std::alloc::{AllocError, Global};
 
-impl<'a, R: OwnerMap, C: OwnerMap> BoardView<'a, R, C> {
+impl<'a> BoardView<'a> {
     /// The order for one task of a statement.
     fn task_order(&self, number: usize, statement: &Statement, task: Task) -> Order
-        requires { Orderable (seat_in (shown self.now.nest.now) (map R.OwnerMap.meaning self.now.row_maps.now) (map C.OwnerMap.meaning self.now.column_maps.now) self.now.board) (said statement.now) task }
-        ensures { result ≡ task_order (seat_in (shown self.now.nest.now) (map R.OwnerMap.meaning self.now.row_maps.now) (map C.OwnerMap.meaning self.now.column_maps.now) self.now.board) number (said statement.now) task }
+        requires { Orderable (seat_of self.now) (said statement.now) task }
+        ensures { result ≡ task_order (seat_of self.now) number (said statement.now) task }
     {
         Order {
             statement: number,
@@ -29,8 +28,8 @@ impl<'a, R: OwnerMap, C: OwnerMap> BoardView<'a, R, C> {
 
     /// The one order of a statement whose tasks are done cell by cell.
     fn walk_order(&self, number: usize, statement: &Statement) -> Order
-        requires { Spannable (seat_in (shown self.now.nest.now) (map R.OwnerMap.meaning self.now.row_maps.now) (map C.OwnerMap.meaning self.now.column_maps.now) self.now.board) None statement.now.i × Spannable (seat_in (shown self.now.nest.now) (map R.OwnerMap.meaning self.now.row_maps.now) (map C.OwnerMap.meaning self.now.column_maps.now) self.now.board) None statement.now.j }
-        ensures { result ≡ walk_order (seat_in (shown self.now.nest.now) (map R.OwnerMap.meaning self.now.row_maps.now) (map C.OwnerMap.meaning self.now.column_maps.now) self.now.board) number (said statement.now) }
+        requires { Spannable (seat_of self.now) None statement.now.i × Spannable (seat_of self.now) None statement.now.j }
+        ensures { result ≡ walk_order (seat_of self.now) number (said statement.now) }
     {
         Order {
             statement: number,
@@ -48,8 +47,8 @@ impl<'a, R: OwnerMap, C: OwnerMap> BoardView<'a, R, C> {
         tasks: &[Task],
         orders: &mut Vec<Order>,
     ) -> Result<(), AllocError>
-        requires { AllOrderable (seat_in (shown self.now.nest.now) (map R.OwnerMap.meaning self.now.row_maps.now) (map C.OwnerMap.meaning self.now.column_maps.now) self.now.board) (said statement.now) tasks.now }
-        ensures { OnOk result (orders.new.items ≡ orders.old.items ++ map (task_order (seat_in (shown self.now.nest.now) (map R.OwnerMap.meaning self.now.row_maps.now) (map C.OwnerMap.meaning self.now.column_maps.now) self.now.board) number (said statement.now)) tasks.now) }
+        requires { AllOrderable (seat_of self.now) (said statement.now) tasks.now }
+        ensures { OnOk result (orders.new.items ≡ orders.old.items ++ map (task_order (seat_of self.now) number (said statement.now)) tasks.now) }
     {
         for task in tasks {
             orders.push(self.task_order(number, statement, *task))?;
@@ -65,9 +64,8 @@ impl<'a, R: OwnerMap, C: OwnerMap> BoardView<'a, R, C> {
         statement: &Statement,
         orders: &mut Vec<Order>,
     ) -> Result<(), AllocError>
-        requires seated { Seated (shown self.now.nest.now) (map R.OwnerMap.meaning self.now.row_maps.now) (map C.OwnerMap.meaning self.now.column_maps.now) self.now.board }
-        requires kept { KeptIn (shown self.now.nest.now) (said statement.now) }
-        ensures { OnOk result (orders.new.items ≡ orders.old.items ++ orders_for (seat_in (shown self.now.nest.now) (map R.OwnerMap.meaning self.now.row_maps.now) (map C.OwnerMap.meaning self.now.column_maps.now) self.now.board) (number, said statement.now)) }
+        requires { KeptIn self.now.fitted.now.nest (said statement.now) }
+        ensures { OnOk result (orders.new.items ≡ orders.old.items ++ orders_for (seat_of self.now) (number, said statement.now)) }
     {
         match statement.mode {
             Mode::All => {
@@ -83,11 +81,10 @@ impl<'a, R: OwnerMap, C: OwnerMap> BoardView<'a, R, C> {
 
     /// The orders of the board for all statements, in succession.
     pub(crate) fn orders(&self, heap: Global) -> Result<Vec<Order>, AllocError>
-        requires { Seated (shown self.now.nest.now) (map R.OwnerMap.meaning self.now.row_maps.now) (map C.OwnerMap.meaning self.now.column_maps.now) self.now.board }
-        ensures { IfOk result (λ v. v.items ≡ board_orders (seat_in (shown self.now.nest.now) (map R.OwnerMap.meaning self.now.row_maps.now) (map C.OwnerMap.meaning self.now.column_maps.now) self.now.board) (shown self.now.nest.now).statements) }
+        ensures { IfOk result (λ v. v.items ≡ board_orders (seat_of self.now) (statements_of self.now)) }
     {
         let mut orders = Vec::new(heap);
-        for (number, statement) in self.nest.statements().iter().enumerate() {
+        for (number, statement) in self.fitted.nest().statements().iter().enumerate() {
             self.push_orders(heap, number, statement, &mut orders)?;
         }
         Ok(orders)

@@ -1,29 +1,32 @@
 // The board that owns the element of an access, in each iteration of a statement.
-ghost use Rattle.std.specs.Prelude.{◌≡◌, ◌≤◌, map};
-ghost use Rattle.nest.specs.Nests.{shown};
+ghost use Rattle.std.specs.Prelude.{◌≡◌, ◌≤◌};
 ghost use Rattle.nest.specs.Terms.{range_of};
 ghost use Rattle.nest.specs.Views.{said};
 ghost use Rattle.owner_map.specs.Meaning.{Position, owner};
-ghost use Rattle.sections.specs.Sections.{Fits, dealt};
 ghost use Rattle.sequential.specs.Iterations.{variable_in};
-ghost use Rattle.compiler.specs.OwnerTables.{Stays, Along, board_by, Answers, Reaches, Tells};
+ghost use Rattle.compiler.specs.OwnerTables.{Stays, Along, HasOwner, owner_by, board_by, Answers, Reaches, Tells};
 
 use crate::positions::position_at;
-use nest::nest::Nest;
 use nest::terms::{Access, Range, Statement, Subscript, Variable};
 use owner_map::OwnerMap;
+use sections::Fitted;
 use sequential::iteration::Iteration;
 
 /// Room for every loop value, which is at most 32.
 pub(crate) const LOOP_VALUES: usize = 33;
 
-/// The owners of an access by the loop values of its row and of its column, each asked of the maps once.
+/// The owners of the positions that a subscript names in one dimension, by the values of its variable.
+#[derive(Clone, Copy)]
+pub(crate) struct OwnersAlong {
+    pub(crate) owners: [usize; LOOP_VALUES],
+    pub(crate) variable: Variable,
+}
+
+/// The owners of an access along its row and its column, each asked of the maps once.
 #[derive(Clone, Copy)]
 pub(crate) struct Owners {
-    pub(crate) rows: [usize; LOOP_VALUES],
-    pub(crate) columns: [usize; LOOP_VALUES],
-    pub(crate) row_variable: Variable,
-    pub(crate) column_variable: Variable,
+    pub(crate) rows: OwnersAlong,
+    pub(crate) columns: OwnersAlong,
     pub(crate) grid_rows: usize,
 }
 
@@ -53,16 +56,29 @@ fn owner_of<M: OwnerMap>(map: &M, position: usize) -> usize
     map.place(position).unwrap().0
 }
 
-/// The owner of the position that a subscript names, by the values of a range.
-fn owners_along<M: OwnerMap>(map: &M, subscript: Subscript, range: Range) -> [usize; LOOP_VALUES]
-    requires { Stays (M.OwnerMap.meaning map.now) subscript range }
-    ensures { Along (M.OwnerMap.meaning map.now) subscript range result }
-{
-    let mut owners = [0; LOOP_VALUES];
-    for value in range.low..range.high + 1 {
-        owners[value] = owner_of(map, position_at(subscript, value));
+impl OwnersAlong {
+    /// The owners of the positions that a subscript names at the values of a range.
+    fn new<M: OwnerMap>(map: &M, subscript: Subscript, range: Range) -> Self
+        requires { Stays (M.OwnerMap.meaning map.now) subscript range }
+        ensures { Along (M.OwnerMap.meaning map.now) subscript range result }
+    {
+        let mut owners = [0; LOOP_VALUES];
+        for value in range.low..range.high + 1 {
+            owners[value] = owner_of(map, position_at(subscript, value));
+        }
+        OwnersAlong {
+            owners,
+            variable: subscript.variable,
+        }
     }
-    owners
+
+    /// The owner in an iteration.
+    fn owner(&self, at: Iteration) -> usize
+        requires { HasOwner self.now at }
+        ensures { result ≡ owner_by self.now at }
+    {
+        self.owners[variable_in(self.variable, at)]
+    }
 }
 
 impl Owners {
@@ -71,32 +87,23 @@ impl Owners {
         requires { Answers self.now at }
         ensures { result ≡ board_by self.now at }
     {
-        let row = variable_in(self.row_variable, at);
-        let column = variable_in(self.column_variable, at);
-        self.rows[row] + self.grid_rows * self.columns[column]
+        self.rows.owner(at) + self.grid_rows * self.columns.owner(at)
     }
 }
 
 /// The owners of an access in the iterations of a statement.
-pub(crate) fn owners_of<R: OwnerMap, C: OwnerMap>(
-    nest: &Nest,
-    row_maps: &[R],
-    column_maps: &[C],
-    statement: &Statement,
-    access: Access,
-) -> Owners
-    requires fits { Fits (shown nest.now).grid (shown nest.now).arrays (dealt (map R.OwnerMap.meaning row_maps.now) (map C.OwnerMap.meaning column_maps.now)) }
+pub(crate) fn owners_of(fitted: &Fitted, statement: &Statement, access: Access) -> Owners
     requires some { ((said statement.now).i.low ≤ (said statement.now).i.high) × ((said statement.now).j.low ≤ (said statement.now).j.high) }
-    requires reaches { Reaches (shown nest.now).arrays (said statement.now) access }
-    ensures { Tells (shown nest.now).grid.rows (dealt (map R.OwnerMap.meaning row_maps.now) (map C.OwnerMap.meaning column_maps.now)) (said statement.now) access result }
+    requires reaches { Reaches fitted.now.nest.arrays (said statement.now) access }
+    ensures { Tells fitted.now.nest.grid.rows fitted.now.deals (said statement.now) access result }
 {
+    let row_map = fitted.row_map(access.array).unwrap();
+    let column_map = fitted.column_map(access.array).unwrap();
     let row_range = range_of(access.row.variable, statement.i, statement.j);
     let column_range = range_of(access.column.variable, statement.i, statement.j);
     Owners {
-        rows: owners_along(&row_maps[access.array], access.row, row_range),
-        columns: owners_along(&column_maps[access.array], access.column, column_range),
-        row_variable: access.row.variable,
-        column_variable: access.column.variable,
-        grid_rows: nest.grid().rows,
+        rows: OwnersAlong::new(row_map, access.row, row_range),
+        columns: OwnersAlong::new(column_map, access.column, column_range),
+        grid_rows: fitted.nest().grid().rows,
     }
 }

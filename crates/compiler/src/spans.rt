@@ -1,9 +1,9 @@
 // The spans of a board.
-ghost use Rattle.std.specs.Prelude.{◌≡◌, map};
-ghost use Rattle.nest.specs.Nests.{shown};
-ghost use Rattle.owner_map.specs.Meaning.{below};
-ghost use Rattle.compiler.specs.Making.{Answerable, Countable, Spannable, counts_in, seat_in};
-ghost use Rattle.compiler.specs.Spans.{span_of};
+ghost use Rattle.std.specs.Prelude.{◌≡◌};
+ghost use Rattle.owner_map.specs.Meaning.{Board, Bound, below};
+ghost use Rattle.compiler.specs.Making.{Countable, Spannable};
+ghost use Rattle.compiler.specs.Seats.{seat_of};
+ghost use Rattle.compiler.specs.Spans.{deal_for, self_for, span_of};
 
 use crate::positions::position_at;
 use crate::span::{Owning, Span};
@@ -12,37 +12,37 @@ use dealing::dimension::Dimension;
 use nest::terms::Range;
 use owner_map::OwnerMap;
 
-/// How many positions a board of the map owns below each of two bounds.
-fn counts_below<M: OwnerMap>(map: &M, board: usize, low: usize, past: usize) -> (usize, usize)
-    requires { Answerable (M.OwnerMap.meaning map.now) board low past }
-    ensures { result ≡ (below (M.OwnerMap.meaning map.now) board low, below (M.OwnerMap.meaning map.now) board past) }
+/// How many positions a board of the map owns below a bound.
+fn count_in<M: OwnerMap>(map: &M, board: usize, bound: usize) -> usize
+    requires { Board (M.OwnerMap.meaning map.now) board × Bound (M.OwnerMap.meaning map.now) bound }
+    ensures { result ≡ below (M.OwnerMap.meaning map.now) board bound }
 {
-    let first = map.count_below(board, low).unwrap();
-    let end = map.count_below(board, past).unwrap();
-    (first, end)
+    map.count_below(board, bound).unwrap()
 }
 
-impl<'a, R: OwnerMap, C: OwnerMap> BoardView<'a, R, C> {
-    /// How many positions of a dimension the board owns below each of two bounds.
-    fn counts_in(&self, owning: Owning, low: usize, past: usize) -> (usize, usize)
-        requires { Countable (seat_in (shown self.now.nest.now) (map R.OwnerMap.meaning self.now.row_maps.now) (map C.OwnerMap.meaning self.now.column_maps.now) self.now.board) owning low past }
-        ensures { result ≡ counts_in (seat_in (shown self.now.nest.now) (map R.OwnerMap.meaning self.now.row_maps.now) (map C.OwnerMap.meaning self.now.column_maps.now) self.now.board) owning low past }
+impl<'a> BoardView<'a> {
+    /// How many positions of a dimension the board owns below a bound.
+    fn count_below(&self, by: Owning, bound: usize) -> usize
+        requires { Countable (seat_of self.now) by bound }
+        ensures { result ≡ below (deal_for (seat_of self.now) by) (self_for (seat_of self.now) by) bound }
     {
-        let row_maps = self.row_maps;
-        let column_maps = self.column_maps;
-        let rows = self.nest.grid().rows;
-        match owning.dimension {
-            Dimension::Rows => counts_below(&row_maps[owning.array], self.board % rows, low, past),
+        let rows = self.fitted.nest().grid().rows;
+        match by.dimension {
+            Dimension::Rows => {
+                let map = self.fitted.row_map(by.array).unwrap();
+                count_in(map, self.board % rows, bound)
+            }
             Dimension::Columns => {
-                counts_below(&column_maps[owning.array], self.board / rows, low, past)
+                let map = self.fitted.column_map(by.array).unwrap();
+                count_in(map, self.board / rows, bound)
             }
         }
     }
 
     /// The span over a loop range that is owned so, or a plain one.
     pub(crate) fn span_of(&self, owning: Option<Owning>, range: Range) -> Span
-        requires { Spannable (seat_in (shown self.now.nest.now) (map R.OwnerMap.meaning self.now.row_maps.now) (map C.OwnerMap.meaning self.now.column_maps.now) self.now.board) owning range }
-        ensures { result ≡ span_of (seat_in (shown self.now.nest.now) (map R.OwnerMap.meaning self.now.row_maps.now) (map C.OwnerMap.meaning self.now.column_maps.now) self.now.board) owning range }
+        requires { Spannable (seat_of self.now) owning range }
+        ensures { result ≡ span_of (seat_of self.now) owning range }
     {
         match owning {
             None => Span {
@@ -53,8 +53,11 @@ impl<'a, R: OwnerMap, C: OwnerMap> BoardView<'a, R, C> {
             Some(by) => {
                 let low = position_at(by.subscript, range.low);
                 let past = position_at(by.subscript, range.high) + 1;
-                let (first, end) = self.counts_in(by, low, past);
-                Span { owning, first, end }
+                Span {
+                    owning,
+                    first: self.count_below(by, low),
+                    end: self.count_below(by, past),
+                }
             }
         }
     }

@@ -1,11 +1,12 @@
 // A board's view of a nest.
-use nest::nest::Nest;
+ghost use Rattle.compiler.specs.Making.{Seated};
 
-/// A nest, the maps of its arrays, and one board of its grid.
+use sections::Fitted;
+
+/// A nest whose arrays are dealt out, and one board of its grid.
 #[derive(Drop)]
-pub(crate) struct BoardView<'a, R, C> {
-    pub(crate) nest: &'a Nest,
-    pub(crate) row_maps: &'a [R],
-    pub(crate) column_maps: &'a [C],
+pub(crate) struct BoardView<'a> {
+    pub(crate) fitted: &'a Fitted<'a>,
     pub(crate) board: usize,
+    ghost seated: { Seated fitted.now board },
 }

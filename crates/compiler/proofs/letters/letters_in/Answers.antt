@@ -1,58 +1,53 @@
-use Rattle.std.proofs.Common.{◌≡◌, ◌+◌, ◌*◌, map, length, vec_items, ap, arith}
+use Rattle.std.proofs.Common.{◌≡◌, ◌+◌, ◌*◌, length, ap, arith}
 use Rattle.nest.specs.Terms.{Said}
 use Rattle.nest.specs.Views.{said}
-use Rattle.sections.specs.Sections.{Deals, dealt}
 use Rattle.compiler.proofs.KeptStatements.{short_ranges, few_reads, target_reaches, read_reaches}
 use Rattle.compiler.proofs.LetterNotes.{at_most_wider}
 use Rattle.compiler.proofs.Tallying.{tallied_none, at_most_none, tallied_read, tallied_all, tallied_pairs}
 use Rattle.compiler.proofs.letters.letters_in.Goals as goal
 
 pub owners_of-target-requires : goal.owners_of-target-requires
-owners_of-target-requires g c =
+owners_of-target-requires c =
     let s : Said = said c.args.statement.now in
-    let short = short_ranges (vec_items c.args.nest.now.arrays) s c.requires.kept in
-    record { fits = c.requires.fits; some = (short.0.1, short.1.1); reaches = target_reaches (vec_items c.args.nest.now.arrays) s c.requires.kept }
+    let short = short_ranges c.args.fitted.now.nest.arrays s c.requires in
+    record { some = (short.0.1, short.1.1); reaches = target_reaches c.args.fitted.now.nest.arrays s c.requires }
 
 pub owners_of-source-requires : goal.owners_of-source-requires
-owners_of-source-requires g c =
+owners_of-source-requires c =
     let s : Said = said c.args.statement.now in
-    let short = short_ranges (vec_items c.args.nest.now.arrays) s c.requires.kept in
+    let short = short_ranges c.args.fitted.now.nest.arrays s c.requires in
     record {
-      fits = c.requires.fits;
       some = (short.0.1, short.1.1);
-      reaches = read_reaches (vec_items c.args.nest.now.arrays) s c.requires.kept c.as_slice-reads.result.now c.as_slice-reads.ensures.value c.loop-read.read-index _ c.loop-read-test.true;
+      reaches = read_reaches c.args.fitted.now.nest.arrays s c.requires c.as_slice-reads.result.now c.as_slice-reads.ensures.value c.loop-read.read-index _ c.loop-read-test.true;
     }
 
 pub note_read-requires : goal.note_read-requires
-note_read-requires g c =
+note_read-requires c =
     let s : Said = said c.args.statement.now in
-    let short = short_ranges (vec_items c.args.nest.now.arrays) s c.requires.kept in
-    let few = few_reads (vec_items c.args.nest.now.arrays) s c.requires.kept in
+    let few = few_reads c.args.fitted.now.nest.arrays s c.requires in
     let same : length c.as_slice-reads.result.now ≡ length s.reads = ap length c.as_slice-reads.ensures.value in
     record {
       room = at_most_wider (1024 * c.loop-read.read-index) 3072 c.loop-read.count (omega (arith, c.loop-read-test.true)) c.loop-read.invariant.1;
-      short = short;
+      short = short_ranges c.args.fitted.now.nest.arrays s c.requires;
       answer = λ e w. ((c.owners_of-source.ensures e w).0, (c.owners_of-target.ensures e w).0);
     }
 
 pub loop-read-init : goal.loop-read-init
-loop-read-init g c = (tallied_none c.none-count.result c.none-count.ensures, at_most_none c.none-count.result c.none-count.ensures)
+loop-read-init c = (tallied_none c.none-count.result c.none-count.ensures, at_most_none c.none-count.result c.none-count.ensures)
 
 pub loop-read-preserved : goal.loop-read-preserved
-loop-read-preserved g c =
-    let deals : Deals = dealt (map g.R.OwnerMap.meaning c.args.row_maps.now) (map g.C.OwnerMap.meaning c.args.column_maps.now) in (
-      tallied_read c.args.nest.now.grid.rows deals (said c.args.statement.now) c.owners_of-source.result c.owners_of-target.result c.as_slice-reads.result.now c.loop-read.read-index _
-          c.loop-read.count c.note_read.new.count c.loop-read-test.true c.owners_of-source.ensures c.owners_of-target.ensures c.loop-read.invariant.0 c.note_read.ensures.noted,
-      at_most_wider (1024 * c.loop-read.read-index + 1024) _ c.note_read.new.count (omega arith) (c.note_read.ensures.room (1024 * c.loop-read.read-index) c.loop-read.invariant.1),
-    )
+loop-read-preserved c = (
+  tallied_read c.args.fitted.now.nest.grid.rows c.args.fitted.now.deals (said c.args.statement.now) c.owners_of-source.result c.owners_of-target.result c.as_slice-reads.result.now c.loop-read.read-index _
+      c.loop-read.count c.note_read.new.count c.loop-read-test.true c.owners_of-source.ensures c.owners_of-target.ensures c.loop-read.invariant.0 c.note_read.ensures.noted,
+  at_most_wider (1024 * c.loop-read.read-index + 1024) _ c.note_read.new.count (omega arith) (c.note_read.ensures.room (1024 * c.loop-read.read-index) c.loop-read.invariant.1),
+)
 
 pub returns : goal.returns
-returns g c =
-    let deals : Deals = dealt (map g.R.OwnerMap.meaning c.args.row_maps.now) (map g.C.OwnerMap.meaning c.args.column_maps.now) in
+returns c =
     let s : Said = said c.args.statement.now in
-    let few = few_reads (vec_items c.args.nest.now.arrays) s c.requires.kept in
+    let few = few_reads c.args.fitted.now.nest.arrays s c.requires in
     let same : length c.as_slice-reads.result.now ≡ length s.reads = ap length c.as_slice-reads.ensures.value in
-    let all = tallied_all c.args.nest.now.grid.rows deals s c.as_slice-reads.result.now c.loop-read.read-index c.loop-read.count c.as_slice-reads.ensures.value c.loop-read-test.false c.loop-read.invariant.0 in
+    let all = tallied_all c.args.fitted.now.nest.grid.rows c.args.fitted.now.deals s c.as_slice-reads.result.now c.loop-read.read-index c.loop-read.count c.as_slice-reads.ensures.value c.loop-read-test.false c.loop-read.invariant.0 in
     record {
       pairs = tallied_pairs c.loop-read.count _ all;
       all = all.1;

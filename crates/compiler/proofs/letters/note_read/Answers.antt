@@ -19,7 +19,7 @@ note-requires c =
     let w : Within (said c.args.statement.now) e = (c.loop-i.auto.i, omega arith, c.loop-j.auto.j, omega arith) in
     let both = c.requires.answer e w in
     let so = c.loop-j.invariant.1 _ (c.loop-i.invariant.1 3072 c.requires.room) in
-    (at_most_wider _ 4095 c.loop-j.count (omega (arith, c.requires.short)) so, (omega (arith, c.board.ensures, both.0.4), omega (arith, c.board-in-loop-j.ensures, both.1.4)))
+    (at_most_wider _ 4095 c.loop-j.count (omega (arith, c.requires.short)) so, (omega (arith, c.board.ensures, both.0.2), omega (arith, c.board-in-loop-j.ensures, both.1.2)))
 
 pub loop-j-preserved : goal.loop-j-preserved
 loop-j-preserved c =
@@ -29,7 +29,7 @@ loop-j-preserved c =
     let step = noting_more c.args.source.now c.args.target.now e c.board.result c.board-in-loop-j.result c.loop-j.count c.note.new.self c.board.ensures c.board-in-loop-j.ensures c.note.ensures in (
       row_more (noting c.args.source.now c.args.target.now) c.loop-i.count c.loop-i.i c.args.statement.now.j c.loop-j.j c.loop-j.count c.note.new.self c.loop-j.auto.j c.loop-j.invariant.0 step,
       λ n a. at_most_more n c.args.statement.now.j.low c.loop-j.j c.board.result c.board-in-loop-j.result c.loop-j.count c.note.new.self
-          c.loop-j.auto.j (omega (arith, c.board.ensures, both.0.4)) (omega (arith, c.board-in-loop-j.ensures, both.1.4)) c.note.ensures (c.loop-j.invariant.1 n a),
+          c.loop-j.auto.j (omega (arith, c.board.ensures, both.0.2)) (omega (arith, c.board-in-loop-j.ensures, both.1.2)) c.note.ensures (c.loop-j.invariant.1 n a),
     )
 
 pub loop-i-preserved : goal.loop-i-preserved

@@ -1,40 +1,34 @@
-use Rattle.std.proofs.Common.{vec_items, ap, le_of_lt}
-use Rattle.nest.specs.Views.{said, said_all}
-use Rattle.sections.proofs.NestRoom.{kept_room}
-use Rattle.compiler.proofs.OwnerLookups.{row_map_there, column_map_there, rows_stay, columns_stay, tables_tell}
+use Rattle.std.proofs.Common.{◌≡◌, ◌<◌, length, ap, ◌∙◌, rules}
+use Rattle.nest.proofs.Keeps.{nest_parts, grid_parts_lem}
+use Rattle.nest.specs.Terms.{Sheet}
+use Rattle.nest.specs.Views.{said}
+use Rattle.sections.specs.MapTables.{tabled}
+use Rattle.sections.specs.Sections.{rows_of, columns_of}
+use Rattle.compiler.proofs.KeptStatements.{nest_kept_as}
+use Rattle.compiler.proofs.OwnerLookups.{array_there, rows_stay, columns_stay, tables_tell}
 use Rattle.compiler.proofs.owners.owners_of.Goals as goal
 
-pub bounds-row_maps-access : goal.bounds-row_maps-access
-bounds-row_maps-access g c =
-    row_map_there g.R.OwnerMap.meaning g.C.OwnerMap.meaning c.args.nest.now.grid (vec_items c.args.nest.now.arrays) c.args.row_maps.now c.args.column_maps.now c.requires.fits (said c.args.statement.now) c.requires.some c.args.access c.requires.reaches
+pub unwrap-row_map-requires : goal.unwrap-row_map-requires
+unwrap-row_map-requires c =
+    let there : c.args.access.array < length c.args.fitted.now.nest.arrays =
+    array_there c.args.fitted.now c.row_map.ensures.fitted (said c.args.statement.now) c.requires.some c.args.access c.requires.reaches in
+    search rules
 
-pub offset_bounds-row_maps-access : goal.offset_bounds-row_maps-access
-offset_bounds-row_maps-access g c =
-    le_of_lt (row_map_there g.R.OwnerMap.meaning g.C.OwnerMap.meaning c.args.nest.now.grid (vec_items c.args.nest.now.arrays) c.args.row_maps.now c.args.column_maps.now c.requires.fits (said c.args.statement.now) c.requires.some c.args.access c.requires.reaches)
+pub new-requires : goal.new-requires
+new-requires c =
+    let is : tabled c.unwrap-row_map.result.now ≡ rows_of c.args.fitted.now.deals c.args.access.array = search rules in
+    rows_stay c.args.fitted.now c.row_map.ensures.fitted (said c.args.statement.now) c.requires.some c.args.access c.requires.reaches _ is _ c.range_of-row_range.ensures
 
-pub bounds-column_maps-access : goal.bounds-column_maps-access
-bounds-column_maps-access g c =
-    column_map_there g.R.OwnerMap.meaning g.C.OwnerMap.meaning c.args.nest.now.grid (vec_items c.args.nest.now.arrays) c.args.row_maps.now c.args.column_maps.now c.requires.fits (said c.args.statement.now) c.requires.some c.args.access c.requires.reaches
-
-pub offset_bounds-column_maps-access : goal.offset_bounds-column_maps-access
-offset_bounds-column_maps-access g c =
-    le_of_lt (column_map_there g.R.OwnerMap.meaning g.C.OwnerMap.meaning c.args.nest.now.grid (vec_items c.args.nest.now.arrays) c.args.row_maps.now c.args.column_maps.now c.requires.fits (said c.args.statement.now) c.requires.some c.args.access c.requires.reaches)
-
-pub owners_along-requires : goal.owners_along-requires
-owners_along-requires g c =
-    rows_stay g.R.OwnerMap.meaning g.C.OwnerMap.meaning c.args.nest.now.grid (vec_items c.args.nest.now.arrays) c.args.row_maps.now c.args.column_maps.now c.requires.fits (said c.args.statement.now) c.requires.some c.args.access c.requires.reaches
-    g.met.R.OwnerMap.sound g.met.C.OwnerMap.sound c.index-row_maps-access.result c.index-row_maps-access.is c.range_of-row_range.result c.range_of-row_range.ensures
-
-pub owners_along-requires-2 : goal.owners_along-requires-2
-owners_along-requires-2 g c =
-    columns_stay g.R.OwnerMap.meaning g.C.OwnerMap.meaning c.args.nest.now.grid (vec_items c.args.nest.now.arrays) c.args.row_maps.now c.args.column_maps.now c.requires.fits (said c.args.statement.now) c.requires.some c.args.access c.requires.reaches
-    g.met.R.OwnerMap.sound g.met.C.OwnerMap.sound c.index-column_maps-access.result c.index-column_maps-access.is c.range_of-column_range.result c.range_of-column_range.ensures
+pub new-requires-2 : goal.new-requires-2
+new-requires-2 c =
+    let is : tabled c.unwrap-column_map.result.now ≡ columns_of c.args.fitted.now.deals c.args.access.array = search rules in
+    columns_stay c.args.fitted.now c.row_map.ensures.fitted (said c.args.statement.now) c.requires.some c.args.access c.requires.reaches _ is _ c.range_of-column_range.ensures
 
 pub returns : goal.returns
-returns g c =
-    tables_tell g.R.OwnerMap.meaning g.C.OwnerMap.meaning c.args.nest.now.grid (vec_items c.args.nest.now.arrays) c.args.row_maps.now c.args.column_maps.now c.requires.fits (said c.args.statement.now) c.requires.some c.args.access c.requires.reaches
-    g.met.R.OwnerMap.sound g.met.C.OwnerMap.sound
-    (kept_room c.args.nest.now.grid (vec_items c.args.nest.now.arrays) c.args.nest.now.sweeps (said_all c.args.nest.now.statements) c.args.nest.now.kept)
-    c.index-row_maps-access.result c.index-row_maps-access.is c.index-column_maps-access.result c.index-column_maps-access.is
-    c.owners_along.result c.owners_along-2.result c.range_of-row_range.result c.range_of-column_range.result c.range_of-row_range.ensures c.range_of-column_range.ensures
-    c.owners_along.ensures c.owners_along-2.ensures c.grid.result.rows (ap (λ t. t.rows) c.grid.ensures)
+returns c =
+    let n : Sheet = c.args.fitted.now.nest in
+    let by_rows : tabled c.unwrap-row_map.result.now ≡ rows_of c.args.fitted.now.deals c.args.access.array = search rules in
+    let by_columns : tabled c.unwrap-column_map.result.now ≡ columns_of c.args.fitted.now.deals c.args.access.array = search rules in
+    let room = (grid_parts_lem n.grid (nest_parts n.grid n.arrays n.sweeps n.statements (nest_kept_as c.nest.result.now n c.nest.ensures.nest)).grid).boards in
+    tables_tell c.args.fitted.now c.row_map.ensures.fitted (said c.args.statement.now) c.requires.some c.args.access c.requires.reaches room _ _ by_rows by_columns _ _ c.range_of-row_range.ensures c.range_of-column_range.ensures
+    (record { rows = c.new.result; columns = c.new-2.result; grid_rows = c.grid.result.rows }) c.new.ensures c.new-2.ensures (ap (λ g. g.rows) c.grid.ensures ∙ ap (λ (m : Sheet). m.grid.rows) c.nest.ensures.nest)

@@ -4,7 +4,6 @@ use Rattle.std.proofs.lemmas.Iterator.Adapters.{YieldsList-from_once}
 use Rattle.std.proofs.lemmas.Iterator.Consumers.{YieldsList-at, YieldsList-from_chain}
 use Rattle.std.proofs.lemmas.Result.{IfOk-weaker}
 use Rattle.nest.specs.declared.terms.ReadTerm.{ReadTerm}
-use Rattle.compiler.specs.declared.order.Task.{Task}
 use Rattle.compiler.specs.declared.order.Task.TheVariants.{Ship, Base, Add, Store}
 use Rattle.compiler.proofs.tasks.tasks_of.Goals as goal
 

@@ -1,6 +1,6 @@
 use Rattle.std.proofs.Common.{◌<◌, length, ◌∙◌, arith, length-set}
 use Rattle.compiler.proofs.OwnerLookups.{along_more}
-use Rattle.compiler.proofs.owners.owners_along.Goals as goal
+use Rattle.compiler.proofs.owners.OwnersAlong.new.Goals as goal
 
 pub loop-value-preserved : goal.loop-value-preserved
 loop-value-preserved g c =
