@@ -1,6 +1,7 @@
 -- Tables of numbers by pair, in which one number is put. Assumes nothing.
-use Rattle.std.proofs.Common.{◌≡◌, ℕ, ◌<◌, List, [], length, get_or, replicate, set, sym, refl, ap, ◌∙◌, ◌⊎◌, inl, inr, ⊎_elim, arith}
-use Rattle.std.proofs.lemmas.List.{get_or-replicate, length-set, get_or-set_same, get_or-set_other}
+use Rattle.std.proofs.Common.{◌≡◌, ℕ, ◌<◌, List, [], length, get_or, set, sym, ap, ◌∙◌, ◌⊎◌, inl, inr, ⊎_elim, arith}
+use Rattle.std.specs.Array.{AllOfLen}
+use Rattle.std.proofs.lemmas.List.{length-set, get_or-set_same, get_or-set_other}
 use Rattle.std.proofs.lemmas.Bool.{cases_eq}
 use Rattle.compiler.specs.LetterCounts.{sent_by, count_at, Square}
 
@@ -40,12 +41,12 @@ module _ (counts : List (List ℕ)) (p q v : ℕ) (hp : p < 8) (square : Square 
       (λ other. ap (λ r. get_or r y 0) (get_or-set_other counts p x (set (sent_by counts p) q v) [] other))
       (cases_eq x p)
 
--- a table of nothing
-abbrev pub nothing : List (List ℕ)
-nothing = replicate 8 (replicate 8 0)
+-- a table of noughts
+abbrev pub Noughts : List (List ℕ) → Type 0
+Noughts counts = AllOfLen (λ row. AllOfLen (λ n. n ≡ 0) row 8) counts 8
 
-pub nothing_square : Square nothing
-nothing_square = (refl, λ p h. ap length (get_or-replicate 8 p (replicate 8 0) [] h))
+pub noughts_square : (counts : List (List ℕ)) → Noughts counts → Square counts
+noughts_square counts none = (none.long, λ p h. (none.at p [] h).long)
 
-pub nothing_at : (p q : ℕ) → p < 8 → q < 8 → count_at nothing p q ≡ 0
-nothing_at p q hp hq = ap (λ r. get_or r q 0) (get_or-replicate 8 p (replicate 8 0) [] hp) ∙ get_or-replicate 8 q 0 0 hq
+pub noughts_at : (counts : List (List ℕ)) → Noughts counts → (p q : ℕ) → p < 8 → q < 8 → count_at counts p q ≡ 0
+noughts_at counts none p q hp hq = (none.at p [] hp).at q 0 hq

@@ -15,11 +15,11 @@ use Rattle.sequential.specs.declared.iteration.Iteration.{Iteration}
 use Rattle.sequential.proofs.Targets.{in_iterations}
 use Rattle.compiler.specs.declared.letters.LetterCount.{LetterCount}
 use Rattle.compiler.specs.declared.owners.Owners.{Owners}
-use Rattle.compiler.specs.LetterCounts.{no_letters, sent_by, count_at, Square, one_more, noted, noting, AtMost}
+use Rattle.compiler.specs.LetterCounts.{sent_by, count_at, Square, one_more, noted, noting, AtMost}
 use Rattle.compiler.specs.OwnerTables.{board_by, Tells}
 use Rattle.compiler.specs.Spans.{seat}
 use Rattle.compiler.specs.Totals.{letter_in, letters_for, letters_in, between}
-use Rattle.compiler.proofs.LetterTables.{cases_pair, put, put_square, put_here, put_elsewhere, nothing_square, nothing_at}
+use Rattle.compiler.proofs.LetterTables.{cases_pair, put, put_square, put_here, put_elsewhere, Noughts, noughts_square, noughts_at}
 
 -- a count has the number of each pair in a list of letters, and of all
 abbrev pub Tallied : LetterCount → List (ℕ × ℕ) → Type 0
@@ -117,8 +117,8 @@ tallied_pairs c letters a =
     (λ p hp. fill_by_all (λ q. between p q letters) (sent_by c.pairs.counts p) 8 0 (a.0.1 p hp) (λ q hq. a.2 p q hp hq))
 
 -- nothing is counted of no letters
-pub tallied_none : (c : LetterCount) → c ≡ no_letters → Tallied c []
-tallied_none c none = subst (λ n. Tallied n []) (sym none) (nothing_square, refl, nothing_at)
+pub tallied_none : (c : LetterCount) → Noughts c.pairs.counts → c.letters ≡ 0 → Tallied c []
+tallied_none c none zero = (noughts_square c.pairs.counts none, zero, noughts_at c.pairs.counts none)
 
-pub at_most_none : (c : LetterCount) → c ≡ no_letters → AtMost 0 c
-at_most_none c none = subst (AtMost 0) (sym none) (nothing_square, omega arith, λ p q hp hq. omega (arith, nothing_at p q hp hq))
+pub at_most_none : (c : LetterCount) → Noughts c.pairs.counts → c.letters ≡ 0 → AtMost 0 c
+at_most_none c none zero = (noughts_square c.pairs.counts none, omega arith, λ p q hp hq. omega (arith, noughts_at c.pairs.counts none p q hp hq))

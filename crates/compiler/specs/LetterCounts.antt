@@ -1,5 +1,5 @@
 -- Letters counted one by one. Assumes nothing.
-use Rattle.std.specs.Prelude.{◌≡◌, ℕ, ◌+◌, ◌<◌, ◌≤◌, cond, List, [], length, replicate, ◌==◌, slice_index, slice_index_or, slice_set}
+use Rattle.std.specs.Prelude.{◌≡◌, ℕ, ◌+◌, ◌<◌, ◌≤◌, cond, List, [], length, ◌==◌, slice_index, slice_index_or, slice_set}
 use Rattle.nest.specs.Terms.{Said}
 use Rattle.nest.specs.declared.terms.Range.{Range}
 use Rattle.sequential.specs.Ready.{Within}
@@ -8,10 +8,6 @@ use Rattle.compiler.specs.declared.letters.LetterCount.{LetterCount}
 use Rattle.compiler.specs.declared.owners.Owners.{Owners}
 use Rattle.compiler.specs.declared.parts.PairLetters.{PairLetters}
 use Rattle.compiler.specs.OwnerTables.{board_by, Answers}
-
--- no letters
-abbrev pub no_letters : LetterCount
-no_letters = record { pairs = record { counts = replicate 8 (replicate 8 0) }; letters = 0 }
 
 -- the row of a sender, and the number of letters from board p to board q
 abbrev pub sent_by : List (List ℕ) → ℕ → List ℕ

@@ -8,7 +8,6 @@ ghost use Rattle.compiler.specs.Laws.{OrdersCoverTheNest};
 ghost use Rattle.compiler.specs.Programs.{compiled};
 
 use crate::boards::board_programs;
-use crate::copying::copy_of;
 use crate::letter_totals::letters_of;
 use crate::parts::BoardProgram;
 use crate::program::Program;
@@ -30,7 +29,7 @@ fn all_steps(boards: &[BoardProgram]) -> usize
 fn program_of(heap: Global, fitted: &Fitted) -> Result<Program, AllocError>
     ensures { IfOk result (λ p. compiled p ≡ program_of fitted.now.nest fitted.now.deals) }
 {
-    let nest = copy_of(heap, fitted.nest())?;
+    let nest = fitted.nest().clone()?;
     let boards = board_programs(heap, fitted)?;
     let totals = letters_of(heap, fitted)?;
     let steps = all_steps(boards.as_slice());

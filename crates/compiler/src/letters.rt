@@ -6,7 +6,7 @@ ghost use Rattle.sequential.specs.Iterations.{iterations};
 ghost use Rattle.compiler.specs.Compiled.{pairs_of};
 ghost use Rattle.compiler.specs.Making.{seat_in};
 ghost use Rattle.compiler.specs.Totals.{letters_in};
-ghost use Rattle.compiler.specs.LetterCounts.{no_letters, noted, noting, AtMost, BothAnswer, ShortRanges};
+ghost use Rattle.compiler.specs.LetterCounts.{noted, noting, AtMost, BothAnswer, ShortRanges};
 
 use crate::owners::{Owners, owners_of};
 use crate::parts::PairLetters;
@@ -16,25 +16,13 @@ use sections::Fitted;
 use sequential::iteration::Iteration;
 
 /// How many letters there are, by pair and in all.
-#[derive(Clone, Copy)]
+#[derive(Clone, Copy, Default)]
 pub(crate) struct LetterCount {
     pub(crate) pairs: PairLetters,
     pub(crate) letters: usize,
 }
 
 impl LetterCount {
-    /// No letter yet.
-    fn none() -> LetterCount
-        ensures { result ≡ no_letters }
-    {
-        LetterCount {
-            pairs: PairLetters {
-                counts: [[0; MOST_BOARDS]; MOST_BOARDS],
-            },
-            letters: 0,
-        }
-    }
-
     /// Notes the letter from the board that owns an element to the board that owns the target. A board sends none to itself.
     fn note(&mut self, from: usize, to: usize)
         requires { (AtMost 4095 self.old) × ((from < 8) × (to < 8)) }
@@ -71,7 +59,7 @@ pub(crate) fn letters_in(fitted: &Fitted, statement: &Statement) -> LetterCount
     ensures room { AtMost 4096 result }
 {
     let target = owners_of(fitted, statement, statement.put);
-    let mut count = LetterCount::none();
+    let mut count = LetterCount::default();
     let reads = statement.reads.as_slice();
     for read in reads {
         let source = owners_of(fitted, statement, read.source);

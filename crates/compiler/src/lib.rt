@@ -6,16 +6,14 @@
 //! - `refusal`: why a nest is not compiled
 //! - `view`, `boards`, `ordering`, `tasks`, `owning`, `spans`: the orders of each board
 //! - `steps`: the steps of a board, from its orders
-//! - `owners`, `positions`: the board that owns the element of an access
+//! - `owners`: the board that owns the element of an access
 //! - `letters`, `depth`, `letter_totals`: the letters by pair, and the depth that the post must have
-//! - `copying`: a copy of a nest
 //! - `worked`: the totals of the sample nest
 #![tactic(auto)]
 
 mod access;
 mod boards;
 pub mod compile;
-mod copying;
 mod depth;
 mod letter_totals;
 mod letters;
@@ -24,7 +22,6 @@ mod ordering;
 mod owners;
 mod owning;
 pub mod parts;
-mod positions;
 pub mod program;
 pub mod refusal;
 pub mod span;

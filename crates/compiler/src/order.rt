@@ -3,7 +3,7 @@ use crate::span::Span;
 use nest::terms::ReadTerm;
 
 /// A piece of work that a statement asks for in each iteration.
-#[derive(Clone, Copy)]
+#[derive(Clone, Copy, PartialEq, Eq, Debug)]
 pub enum Task {
     /// Send the element of a read to the board that owns the target.
     Ship(ReadTerm),
@@ -17,7 +17,7 @@ pub enum Task {
 
 /// What is done in each cell of an order.
 // Kept: not an Option of a task, since None would not say that all tasks are done.
-#[derive(Clone, Copy)]
+#[derive(Clone, Copy, PartialEq, Eq, Debug)]
 pub enum Work {
     /// One task, in one step.
     One(Task),
@@ -26,7 +26,7 @@ pub enum Work {
 }
 
 /// One board's loop over a statement: its cells are the pairs of its two spans, i slowest.
-#[derive(Clone, Copy)]
+#[derive(Clone, Copy, PartialEq, Eq, Debug)]
 pub struct Order {
     /// The statement, counted from 0.
     pub statement: usize,

@@ -1,12 +1,9 @@
 // The board that owns the element of an access, in each iteration of a statement.
 ghost use Rattle.std.specs.Prelude.{◌≡◌, ◌≤◌};
-ghost use Rattle.nest.specs.Terms.{range_of};
 ghost use Rattle.nest.specs.Views.{said};
 ghost use Rattle.owner_map.specs.Meaning.{Position, owner};
-ghost use Rattle.sequential.specs.Iterations.{variable_in};
 ghost use Rattle.compiler.specs.OwnerTables.{Stays, Along, HasOwner, owner_by, board_by, Answers, Reaches, Tells};
 
-use crate::positions::position_at;
 use nest::terms::{Access, Range, Statement, Subscript, Variable};
 use owner_map::OwnerMap;
 use sections::Fitted;
@@ -30,24 +27,6 @@ pub(crate) struct Owners {
     pub(crate) grid_rows: usize,
 }
 
-fn variable_in(variable: Variable, at: Iteration) -> usize
-    ensures { result ≡ variable_in variable at }
-{
-    match variable {
-        Variable::I => at.i,
-        Variable::J => at.j,
-    }
-}
-
-fn range_of(variable: Variable, i: Range, j: Range) -> Range
-    ensures { result ≡ range_of variable i j }
-{
-    match variable {
-        Variable::I => i,
-        Variable::J => j,
-    }
-}
-
 /// The owner of a position of the map.
 fn owner_of<M: OwnerMap>(map: &M, position: usize) -> usize
     requires { Position (M.OwnerMap.meaning map.now) position }
@@ -64,7 +43,7 @@ impl OwnersAlong {
     {
         let mut owners = [0; LOOP_VALUES];
         for value in range.low..range.high + 1 {
-            owners[value] = owner_of(map, position_at(subscript, value));
+            owners[value] = owner_of(map, subscript.position(value).unwrap());
         }
         OwnersAlong {
             owners,
@@ -77,7 +56,7 @@ impl OwnersAlong {
         requires { HasOwner self.now at }
         ensures { result ≡ owner_by self.now at }
     {
-        self.owners[variable_in(self.variable, at)]
+        self.owners[self.variable.pick(at.i, at.j)]
     }
 }
 
@@ -99,8 +78,8 @@ pub(crate) fn owners_of(fitted: &Fitted, statement: &Statement, access: Access) 
 {
     let row_map = fitted.row_map(access.array).unwrap();
     let column_map = fitted.column_map(access.array).unwrap();
-    let row_range = range_of(access.row.variable, statement.i, statement.j);
-    let column_range = range_of(access.column.variable, statement.i, statement.j);
+    let row_range = access.row.variable.pick(statement.i, statement.j);
+    let column_range = access.column.variable.pick(statement.i, statement.j);
     Owners {
         rows: OwnersAlong::new(row_map, access.row, row_range),
         columns: OwnersAlong::new(column_map, access.column, column_range),

@@ -2,28 +2,18 @@
 ghost use Rattle.std.specs.Prelude.{◌≡◌};
 ghost use Rattle.nest.specs.Views.{said};
 ghost use Rattle.compiler.specs.Orders.{i_owning, j_owning};
-ghost use Rattle.compiler.specs.Spans.{owning_by, subscript_in, same_variable, moves_with, ship_owning};
+ghost use Rattle.compiler.specs.Spans.{owning_by, subscript_in, moves_with, ship_owning};
 
 use crate::order::Task;
 use crate::span::Owning;
 use dealing::dimension::Dimension;
 use nest::terms::{Access, Statement, Subscript, Variable};
 
-fn same_variable(a: Variable, b: Variable) -> bool
-    ensures { result ≡ same_variable a b }
-{
-    match (a, b) {
-        (Variable::I, Variable::I) => true,
-        (Variable::I, Variable::J) => false,
-        (Variable::J, Variable::I) => false,
-        (Variable::J, Variable::J) => true,
-    }
-}
-
+/// Whether a subscript uses a variable, with a factor of at least 1.
 fn moves_with(variable: Variable, subscript: Subscript) -> bool
     ensures { result ≡ moves_with variable subscript }
 {
-    same_variable(variable, subscript.variable) && subscript.factor >= 1
+    variable == subscript.variable && subscript.factor >= 1
 }
 
 /// The subscript of an access in a dimension.

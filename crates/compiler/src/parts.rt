@@ -10,7 +10,7 @@ pub struct BoardProgram {
 }
 
 /// How many letters each board sends each other in one run of a statement: a row for each sender, by receiver.
-#[derive(Clone, Copy)]
+#[derive(Clone, Copy, Default)]
 pub struct PairLetters {
     pub counts: [[usize; MOST_BOARDS]; MOST_BOARDS],
 }

@@ -6,7 +6,7 @@ ghost use Rattle.compiler.specs.declared.refusal.CompileRefusal.TheVariants.{NoM
 use std::alloc::AllocError;
 
 /// Why there is no program.
-#[derive(Clone, Copy)]
+#[derive(Clone, Copy, PartialEq, Eq, Debug)]
 pub enum CompileRefusal {
     /// There are more or fewer maps than arrays, or one has not its array's length or the grid's board count. Refusal 7.
     MapsDiffer,
@@ -24,6 +24,7 @@ impl From<AllocError> for CompileRefusal {
 
 impl CompileRefusal {
     /// The number of the refusal; want of memory has 0.
+    // Kept: a fault is known by its number outside, and an Option of it would say no more than 0 does.
     pub fn number(self) -> usize
         ensures { result ≡ refusal_number self }
     {

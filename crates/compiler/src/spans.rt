@@ -5,7 +5,6 @@ ghost use Rattle.compiler.specs.Making.{Countable, Spannable};
 ghost use Rattle.compiler.specs.Seats.{seat_of};
 ghost use Rattle.compiler.specs.Spans.{deal_for, self_for, span_of};
 
-use crate::positions::position_at;
 use crate::span::{Owning, Span};
 use crate::view::BoardView;
 use dealing::dimension::Dimension;
@@ -51,8 +50,8 @@ impl<'a> BoardView<'a> {
                 end: range.high + 1,
             },
             Some(by) => {
-                let low = position_at(by.subscript, range.low);
-                let past = position_at(by.subscript, range.high) + 1;
+                let low = by.subscript.position(range.low).unwrap();
+                let past = by.subscript.position(range.high).unwrap() + 1;
                 Span {
                     owning,
                     first: self.count_below(by, low),

@@ -21,7 +21,7 @@ invariant_of-result c =
     let sheet : Sheet = c.args.fitted.now.nest in
     let deals : Deals = c.args.fitted.now.deals in
     let copy : Sheet = shown c.in_ok-nest.nest in
-    let same = c.in_ok-nest.ensures ∙ c.nest.ensures.nest in
+    let same = c.in_ok-nest.ensures.cases ∙ c.nest.ensures.nest in
     record {
       kept = boards_kept sheet deals (vec_items c.in_ok-boards.boards) c.in_ok-boards.ensures.whole (nest_kept_as c.nest.result.now sheet c.nest.ensures.nest) copy same;
       tables = tables_all sheet deals copy same (vec_items c.in_ok-totals.totals.pairs) c.in_ok-totals.ensures.pairs;
@@ -34,4 +34,4 @@ returns c =
     let boards = c.in_ok-boards.ensures.whole in
     let totals = c.in_ok-totals.ensures in
     let steps = c.all_steps-steps.ensures ∙ ap (sum_by (λ (b : BoardProgram). b.steps)) c.as_slice.ensures.value ∙ steps_of_all sheet deals (vec_items c.in_ok-boards.boards) boards in
-    same_program _ (program_of sheet deals) (c.in_ok-nest.ensures ∙ c.nest.ensures.nest) boards totals.pairs steps totals.letters totals.depth
+    same_program _ (program_of sheet deals) (c.in_ok-nest.ensures.cases ∙ c.nest.ensures.nest) boards totals.pairs steps totals.letters totals.depth

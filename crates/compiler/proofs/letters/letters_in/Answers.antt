@@ -33,7 +33,9 @@ note_read-requires c =
     }
 
 pub loop-read-init : goal.loop-read-init
-loop-read-init c = (tallied_none c.none-count.result c.none-count.ensures, at_most_none c.none-count.result c.none-count.ensures)
+loop-read-init c =
+    let none = c.default-count.ensures in
+    (tallied_none c.default-count.result none.0 none.1, at_most_none c.default-count.result none.0 none.1)
 
 pub loop-read-preserved : goal.loop-read-preserved
 loop-read-preserved c = (

@@ -17,12 +17,12 @@ unwrap-row_map-requires c =
 pub new-requires : goal.new-requires
 new-requires c =
     let is : tabled c.unwrap-row_map.result.now ≡ rows_of c.args.fitted.now.deals c.args.access.array = search rules in
-    rows_stay c.args.fitted.now c.row_map.ensures.fitted (said c.args.statement.now) c.requires.some c.args.access c.requires.reaches _ is _ c.range_of-row_range.ensures
+    rows_stay c.args.fitted.now c.row_map.ensures.fitted (said c.args.statement.now) c.requires.some c.args.access c.requires.reaches _ is _ c.pick-row_range.ensures
 
 pub new-requires-2 : goal.new-requires-2
 new-requires-2 c =
     let is : tabled c.unwrap-column_map.result.now ≡ columns_of c.args.fitted.now.deals c.args.access.array = search rules in
-    columns_stay c.args.fitted.now c.row_map.ensures.fitted (said c.args.statement.now) c.requires.some c.args.access c.requires.reaches _ is _ c.range_of-column_range.ensures
+    columns_stay c.args.fitted.now c.row_map.ensures.fitted (said c.args.statement.now) c.requires.some c.args.access c.requires.reaches _ is _ c.pick-column_range.ensures
 
 pub returns : goal.returns
 returns c =
@@ -30,5 +30,5 @@ returns c =
     let by_rows : tabled c.unwrap-row_map.result.now ≡ rows_of c.args.fitted.now.deals c.args.access.array = search rules in
     let by_columns : tabled c.unwrap-column_map.result.now ≡ columns_of c.args.fitted.now.deals c.args.access.array = search rules in
     let room = (grid_parts_lem n.grid (nest_parts n.grid n.arrays n.sweeps n.statements (nest_kept_as c.nest.result.now n c.nest.ensures.nest)).grid).boards in
-    tables_tell c.args.fitted.now c.row_map.ensures.fitted (said c.args.statement.now) c.requires.some c.args.access c.requires.reaches room _ _ by_rows by_columns _ _ c.range_of-row_range.ensures c.range_of-column_range.ensures
+    tables_tell c.args.fitted.now c.row_map.ensures.fitted (said c.args.statement.now) c.requires.some c.args.access c.requires.reaches room _ _ by_rows by_columns _ _ c.pick-row_range.ensures c.pick-column_range.ensures
     (record { rows = c.new.result; columns = c.new-2.result; grid_rows = c.grid.result.rows }) c.new.ensures c.new-2.ensures (ap (λ g. g.rows) c.grid.ensures ∙ ap (λ (m : Sheet). m.grid.rows) c.nest.ensures.nest)
