@@ -2,59 +2,59 @@
 use dealing::dimension::Dimension;
 use dealing::maps::maps_over;
 use nest::nest::Nest;
-use sections::{gather, scatter};
+use owner_map::BlockCyclic;
+use sections::{LayoutRefusal, gather, scatter};
 
-/// The sections of the values, and whether both calls went through and gathering gave the values back.
-pub(crate) fn scattered(
-    rt: &HostRuntime,
-    nest: &Nest,
-    values: &[i32],
-) -> anyhow::Result<(Vec<i32>, bool)> {
-    let heap = rt.alloc();
-    let rows = maps_over(heap, Dimension::Rows, nest)?;
-    let columns = maps_over(heap, Dimension::Columns, nest)?;
-    let mut parts = vec![in heap; 0i32; values.len()]?;
-    let mut back = vec![in heap; 0i32; values.len()]?;
-    let out = scatter(
-        nest,
-        rows.as_slice(),
-        columns.as_slice(),
-        values,
-        parts.as_mut_slice(),
-    )
-    .is_ok();
-    let again = gather(
-        nest,
-        rows.as_slice(),
-        columns.as_slice(),
-        parts.as_slice(),
-        back.as_mut_slice(),
-    )
-    .is_ok();
-    let same = back.as_slice() == values;
-    Ok((parts, out && again && same))
+/// A nest with the maps of its words.
+#[derive(Drop)]
+pub(crate) struct Deal<'a> {
+    nest: &'a Nest,
+    rows: Vec<BlockCyclic>,
+    columns: Vec<BlockCyclic>,
 }
 
-/// Whether maps of the other dimension, and a buffer that is one short, are refused by 7 and 8.
-pub(crate) fn refusals(rt: &HostRuntime, nest: &Nest, values: &[i32]) -> anyhow::Result<(u8, u8)> {
-    let heap = rt.alloc();
-    let rows = maps_over(heap, Dimension::Rows, nest)?;
-    let columns = maps_over(heap, Dimension::Columns, nest)?;
-    let mut short = vec![in heap; 0i32; values.len().saturating_sub(1)]?;
-    let none = &rows.as_slice()[0..0];
-    let by_maps = match scatter(nest, none, columns.as_slice(), values, short.as_mut_slice()) {
-        Ok(()) => 0,
-        Err(refusal) => refusal.number(),
-    };
-    let by_length = match scatter(
-        nest,
-        rows.as_slice(),
-        columns.as_slice(),
-        values,
-        short.as_mut_slice(),
-    ) {
-        Ok(()) => 0,
-        Err(refusal) => refusal.number(),
-    };
-    Ok((by_maps, by_length))
+impl<'a> Deal<'a> {
+    pub(crate) fn new(rt: &HostRuntime, nest: &'a Nest) -> anyhow::Result<Deal<'a>> {
+        let rows = maps_over(rt.alloc(), Dimension::Rows, nest)?;
+        let columns = maps_over(rt.alloc(), Dimension::Columns, nest)?;
+        Ok(Deal {
+            nest,
+            rows,
+            columns,
+        })
+    }
+
+    /// The sections of the values, and whether both calls went through and gathering gave the values back.
+    pub(crate) fn scattered(
+        &self,
+        rt: &HostRuntime,
+        values: &[i32],
+    ) -> anyhow::Result<(Vec<i32>, bool)> {
+        let mut parts = vec![in rt.alloc(); 0i32; values.len()]?;
+        let mut back = vec![in rt.alloc(); 0i32; values.len()]?;
+        let went = scatter(self.nest, &self.rows, &self.columns, values, &mut parts)
+            .and_then(|()| gather(self.nest, &self.rows, &self.columns, &parts, &mut back))
+            .is_ok();
+        let is_back = went && back.as_slice() == values;
+        Ok((parts, is_back))
+    }
+
+    /// How no maps of rows, and how a buffer that is one short, are refused.
+    pub(crate) fn refusals(
+        &self,
+        rt: &HostRuntime,
+        values: &[i32],
+    ) -> anyhow::Result<(Option<LayoutRefusal>, Option<LayoutRefusal>)> {
+        let mut short = vec![in rt.alloc(); 0i32; values.len().saturating_sub(1)]?;
+        let by_maps = scatter(
+            self.nest,
+            &self.rows[..0],
+            &self.columns,
+            values,
+            &mut short,
+        )
+        .err();
+        let by_length = scatter(self.nest, &self.rows, &self.columns, values, &mut short).err();
+        Ok((by_maps, by_length))
+    }
 }

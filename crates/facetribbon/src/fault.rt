@@ -52,17 +52,15 @@ impl From<io::Error> for Fault {
 impl Fault {
     /// Prints a refusal; hands on what is no refusal.
     pub(crate) fn report(self, rt: &HostRuntime) -> io::Result<()> {
-        match self {
-            Fault::Sheet(SheetFault::NoMemory) => Err(io::Error::from(io::ErrorKind::OutOfMemory)),
-            Fault::Sheet(fault) => {
-                let told = Told::from(fault);
-                println!(rt; "{told}")
-            }
-            Fault::Run(refusal) => {
-                let number = refusal.number();
-                println!(rt; "fault={number},0,0")
-            }
-            Fault::Io(e) => Err(e),
-        }
+        let told = match self {
+            Fault::Sheet(SheetFault::NoMemory) => return Err(io::ErrorKind::OutOfMemory.into()),
+            Fault::Sheet(fault) => Told::from(fault),
+            Fault::Run(refusal) => Told {
+                number: refusal.number(),
+                ..Told::default()
+            },
+            Fault::Io(e) => return Err(e),
+        };
+        println!(rt; "{told}")
     }
 }

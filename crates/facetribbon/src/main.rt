@@ -18,16 +18,12 @@ use std::io;
 
 fn run(rt: &HostRuntime, heap: Global) -> Result<(), Fault> {
     let bytes = sheet_bytes(rt, heap)?;
-    let nest = read_sheet(heap, bytes.as_slice())?;
+    let nest = read_sheet(heap, &bytes)?;
     describe(rt, &nest)?;
     describe_deals(rt, &nest)?;
     run_in_sequence(rt, heap, &nest)
 }
 
 fn main(rt: HostRuntime) -> io::Result<()> {
-    let heap = rt.alloc();
-    match run(&rt, heap) {
-        Ok(()) => Ok(()),
-        Err(fault) => fault.report(&rt),
-    }
+    run(&rt, rt.alloc()).or_else(|fault| fault.report(&rt))
 }

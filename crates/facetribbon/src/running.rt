@@ -7,27 +7,15 @@ use nest::nest::Nest;
 use nest::terms::Array;
 use sequential::run::sequential;
 use std::alloc::{AllocError, Global};
-use std::io;
+use std::{io, iter};
 
 // The numbers 1, 2, 3 and so on.
 fn start_values(heap: Global, count: usize) -> Result<Vec<i32>, AllocError>
     ensures { IfOk result (λ v. vec_len v ≡ count) }
 {
-    let mut values = Vec::new(heap);
-    let mut next: i32 = 1;
-    while values.len() < count {
-        values.push(next)?;
-        next = next.wrapping_add(1);
-    }
-    Ok(values)
-}
-
-fn print_element(rt: &HostRuntime, values: &[i32], place: Option<usize>) -> io::Result<()> {
-    let value = match place {
-        Some(k) => values.get(k).copied().unwrap_or(0),
-        None => 0,
-    };
-    print!(rt; "{value}")
+    iter::successors(Some(1i32), |n| Some(n.wrapping_add(1)))
+        .take(count)
+        .collect(heap)
 }
 
 fn print_array(
@@ -39,12 +27,14 @@ fn print_array(
 ) -> io::Result<()> {
     let number = t.saturating_add(1);
     print!(rt; "array{number}=")?;
-    for x in 1..array.rows.saturating_add(1) {
-        for y in 1..array.columns.saturating_add(1) {
+    for x in 1..=array.rows {
+        for y in 1..=array.columns {
             if x > 1 || y > 1 {
                 print!(rt; ",")?;
             }
-            print_element(rt, values, layout.place(t, x, y))?;
+            let place = layout.place(t, x, y);
+            let value = place.and_then(|k| values.get(k)).copied().unwrap_or(0);
+            print!(rt; "{value}")?;
         }
     }
     println!(rt; "")
@@ -57,14 +47,9 @@ pub(crate) fn run_in_sequence(rt: &HostRuntime, heap: Global, nest: &Nest) -> Re
     let mut values = start_values(heap, total)?;
     let mut held = vec![in heap; 0i32; total]?;
     let coefficients: [i32; 8] = [0, 1, 2, 3, 4, 5, 6, 7];
-    sequential(
-        nest,
-        &coefficients,
-        values.as_mut_slice(),
-        held.as_mut_slice(),
-    )?;
+    sequential(nest, &coefficients, &mut values, &mut held)?;
     for (t, array) in nest.arrays().iter().enumerate() {
-        print_array(rt, &layout, t, array, values.as_slice())?;
+        print_array(rt, &layout, t, array, &values)?;
     }
     Ok(())
 }

@@ -13,6 +13,7 @@ fn layout_of<'a>(arrays: &'a [Array]) -> Layout<'a>
 {
     let mut starts = [0; 4];
     let mut total = 0;
+    // Kept: after a `zip` with `iter_mut` a proof knows no more of `starts` than its length.
     for (t, array) in arrays.iter().enumerate() {
         starts[t] = total;
         total += array.rows * array.columns;

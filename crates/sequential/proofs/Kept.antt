@@ -1,7 +1,9 @@
 -- What a statement that keeps its ranges brings in each iteration. Assumes nothing.
-use Rattle.std.proofs.Common.{◌≡◌, ℕ, zero, suc, ◌*◌, ◌<◌, ◌≤◌, Bool, true, not, ◌&&◌, ltb, leb, List, [], ◌∷◌, length, get_or, mul-le-mul_left, arith, ltb-true}
+use Rattle.std.proofs.Common.{◌≡◌, ℕ, ◌*◌, ◌<◌, ◌≤◌, true, not, ◌&&◌, ltb, leb, List, length, get_or, mul-le-mul_left, map, sym, ap, ◌∙◌, arith, ltb-true}
+use Rattle.std.proofs.lemmas.List.{get_or-map, length-map}
 use Rattle.std.proofs.lemmas.Bool.{and_parts, leb-true}
 use Rattle.nest.specs.Terms.{far, moved, position, range_of, inside, nowhere, Said}
+use Rattle.nest.specs.Views.{said}
 use Rattle.nest.specs.Sound.{between, each, range_kept, subscript_kept, access_kept, is_i, read_kept, statement_kept}
 use Rattle.nest.specs.declared.terms.Array.{Array}
 use Rattle.nest.specs.declared.terms.Range.{Range}
@@ -11,17 +13,13 @@ use Rattle.nest.specs.declared.terms.Offset.{Offset}
 use Rattle.nest.specs.declared.terms.Offset.TheVariants.{Plus, Minus}
 use Rattle.nest.specs.declared.terms.Subscript.{Subscript}
 use Rattle.nest.specs.declared.terms.Access.{Access}
+use Rattle.nest.specs.declared.terms.Statement.{Statement}
 use Rattle.nest.specs.declared.terms.ReadTerm.{ReadTerm}
+use Rattle.nest.proofs.Keeps.{bounds, each_at}
 use Rattle.layout.proofs.Starts.{element_there}
 use Rattle.sequential.specs.declared.iteration.Iteration.{Iteration}
 use Rattle.sequential.specs.Iterations.{variable_in, position_in}
 use Rattle.sequential.specs.Ready.{Within, SmallIn, Reached}
-
--- one of a list, every one of which passes
-pub each_at : {X : Type 0} (f : X → Bool) (xs : List X) (n : ℕ) (d : X) → each f xs ≡ true → n < length xs → f (get_or xs n d) ≡ true
-each_at f [] n d k h = absurd (omega arith)
-each_at f (x ∷ xs) zero d k h = (and_parts (f x) (each f xs) k).0
-each_at f (x ∷ xs) (suc n) d k h = each_at f xs n d (and_parts (f x) (each f xs) k).1 (omega arith)
 
 -- the parts of a statement that keeps its ranges
 pub record Parts (arrays : List Array) (s : Said) : Type 0 where
@@ -75,8 +73,8 @@ range_small J i j p q = (range_of_lem j q).1
 pub factor_of : (least : ℕ) (s : Subscript) → subscript_kept least s ≡ true → (least ≤ s.factor) × (s.factor ≤ 4) × (far s.offset ≤ 64)
 factor_of least s k =
     let p = and_parts (between least 4 s.factor) (leb (far s.offset) 64) k in
-    let q = and_parts (leb least s.factor) (leb s.factor 4) p.0 in
-    (leb-true least s.factor q.0, leb-true s.factor 4 q.1, leb-true (far s.offset) 64 p.1)
+    let q = bounds least 4 s.factor p.0 in
+    (q.0, q.1, leb-true (far s.offset) 64 p.1)
 
 pub record AccessParts (least : ℕ) (arrays : List Array) (i j : Range) (a : Access) : Type 0 where
   pub there : a.array < length arrays
@@ -133,14 +131,21 @@ module _ (arrays : List Array) (s : Said) (kept : Parts arrays s) (e : Iteration
   pub read_reached : (items : List ReadTerm) → items ≡ s.reads → (n : ℕ) (d : ReadTerm) → n < length items → Reached arrays (get_or items n d).source e
   read_reached items same n d h =
       let r = get_or items n d in
-      reached 0 r.source (and_parts (leb r.coefficient 7) (access_kept 0 arrays s.i s.j r.source) (each_at (read_kept arrays s.i s.j) items n d (rw same kept.reads) h)).1
+      reached 0 r.source (and_parts (leb r.coefficient 7) (access_kept 0 arrays s.i s.j r.source) (each_at (read_kept arrays s.i s.j) items (rw same kept.reads) n d h)).1
 
 -- the coefficient of a read is one of the eight
 pub read_coefficient : (arrays : List Array) (s : Said) → Parts arrays s → (items : List ReadTerm) → items ≡ s.reads → (n : ℕ) (d : ReadTerm) (eight : ℕ) → eight ≡ 8 → n < length items → (get_or items n d).coefficient < eight
 read_coefficient arrays s kept items same n d eight e h =
     let r = get_or items n d in
-    omega (arith, leb-true r.coefficient 7 (and_parts (leb r.coefficient 7) (access_kept 0 arrays s.i s.j r.source) (each_at (read_kept arrays s.i s.j) items n d (rw same kept.reads) h)).0)
+    omega (arith, leb-true r.coefficient 7 (and_parts (leb r.coefficient 7) (access_kept 0 arrays s.i s.j r.source) (each_at (read_kept arrays s.i s.j) items (rw same kept.reads) n d h)).0)
 
 -- so is the base coefficient
 pub base_below : (arrays : List Array) (s : Said) → Parts arrays s → (eight : ℕ) → eight ≡ 8 → s.base < eight
 base_below arrays s kept eight e = omega (arith, leb-true s.base 7 kept.base)
+
+-- one statement of a list
+pub statement_at : (arrays : List Array) (items : List Statement) (n : ℕ) (item : Statement)
+    → each (statement_kept arrays) (map said items) ≡ true → n < length items → item ≡ get_or items n item → statement_kept arrays (said item) ≡ true
+statement_at arrays items n item all below is =
+    let lies : get_or (map said items) n (said item) ≡ said item = get_or-map said items n item (said item) below ∙ ap said (sym is) in
+    ap (statement_kept arrays) (sym lies) ∙ each_at (statement_kept arrays) (map said items) all n (said item) (rw (length-map items said) below)

@@ -1,7 +1,6 @@
 pub mod Kept
 pub mod TermSums
 pub mod Turns
-pub mod Sweeps
 pub mod Lists
 pub mod Targets
 pub mod Passing

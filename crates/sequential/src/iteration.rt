@@ -1,7 +1,7 @@
 // An iteration of a statement.
 
 /// The values of the two loop variables.
-#[derive(Clone, Copy)]
+#[derive(Clone, Copy, PartialEq, Eq, Debug)]
 pub struct Iteration {
     pub i: usize,
     pub j: usize,

@@ -5,31 +5,33 @@ ghost use Rattle.sequential.specs.Iterations.{position_in, place_in};
 ghost use Rattle.sequential.specs.Ready.{SmallIn, Reached};
 
 use crate::iteration::Iteration;
-use layout::table::Layout;
-use nest::terms::{Access, Offset, Subscript, Variable};
+use crate::running::Running;
+use nest::terms::{Access, Offset, Subscript};
 
-fn position_in(subscript: Subscript, at: Iteration) -> usize
-    requires { SmallIn subscript at }
-    ensures { result ≡ position_in subscript at }
-{
-    let value = match subscript.variable {
-        Variable::I => at.i,
-        Variable::J => at.j,
-    };
-    let multiple = subscript.factor * value;
-    match subscript.offset {
-        Offset::Plus(far) => multiple + far,
-        Offset::Minus(far) => multiple.saturating_sub(far),
+impl Iteration {
+    /// The position that a subscript names here.
+    fn position(self, subscript: Subscript) -> usize
+        requires { SmallIn subscript self }
+        ensures { result ≡ position_in subscript self }
+    {
+        // Kept: `Subscript::position` of `nest` checks each step; with it a run takes half as long again.
+        let multiple = subscript.factor * subscript.variable.pick(self.i, self.j);
+        match subscript.offset {
+            Offset::Plus(far) => multiple + far,
+            Offset::Minus(far) => multiple.saturating_sub(far),
+        }
     }
 }
 
-/// The place of an element that is there, so that nothing is left of the test for it.
-pub(crate) fn place_in(layout: &Layout, access: Access, at: Iteration) -> usize
-    requires { Reached layout.now.arrays.now access at }
-    ensures place { result ≡ place_in layout.now.arrays.now access at }
-    ensures below { result < total layout.now.arrays.now }
-{
-    let row = position_in(access.row, at);
-    let column = position_in(access.column, at);
-    layout.place(access.array, row, column).unwrap()
+impl<'a, T> Running<'a, T> {
+    /// The place of an element that is there, so that nothing is left of the test for it.
+    pub(crate) fn place(&self, access: Access, at: Iteration) -> usize
+        requires { Reached self.now.layout.arrays.now access at }
+        ensures place { result ≡ place_in self.now.layout.arrays.now access at }
+        ensures below { result < total self.now.layout.arrays.now }
+    {
+        let row = at.position(access.row);
+        let column = at.position(access.column);
+        self.layout.place(access.array, row, column).unwrap()
+    }
 }

@@ -5,7 +5,6 @@ ghost use Rattle.sequential.specs.Run.{setting_of, buffers_of, hold, store, hold
 ghost use Rattle.sequential.specs.Ready.{Within, Lent};
 
 use crate::iteration::Iteration;
-use crate::places::place_in;
 use crate::running::Running;
 use post::kinds::NumberKind;
 
@@ -16,7 +15,7 @@ impl<'a, T: NumberKind> Running<'a, T> {
         requires within { Within (said self.now.statement.now) at }
         ensures { (d : T) → buffers_of elements.now held.new ≡ hold (setting_of T.NumberKind.sum T.NumberKind.product self.now.coefficients.now self.now.layout.arrays.now d) (said self.now.statement.now) (buffers_of elements.now held.old) at }
     {
-        held[place_in(&self.layout, self.statement.put, at)] = self.value(at, elements);
+        held[self.place(self.statement.put, at)] = self.value(at, elements);
     }
 
     /// Makes the held value of the target its element.
@@ -25,7 +24,7 @@ impl<'a, T: NumberKind> Running<'a, T> {
         requires within { Within (said self.now.statement.now) at }
         ensures { (d : T) → buffers_of elements.new held.now ≡ store (setting_of T.NumberKind.sum T.NumberKind.product self.now.coefficients.now self.now.layout.arrays.now d) (said self.now.statement.now) (buffers_of elements.old held.now) at }
     {
-        let place = place_in(&self.layout, self.statement.put, at);
+        let place = self.place(self.statement.put, at);
         elements[place] = held[place];
     }
 

@@ -6,7 +6,6 @@ ghost use Rattle.sequential.specs.Run.{setting_of, value_in};
 ghost use Rattle.sequential.specs.Ready.{Within};
 
 use crate::iteration::Iteration;
-use crate::places::place_in;
 use crate::running::Running;
 use post::kinds::NumberKind;
 
@@ -21,7 +20,7 @@ impl<'a, T: NumberKind> Running<'a, T> {
         let mut value = coefficients[self.statement.base];
         let reads = self.statement.reads.as_slice();
         for term in reads {
-            let element = elements[place_in(&self.layout, term.source, at)];
+            let element = elements[self.place(term.source, at)];
             value = value.plus(coefficients[term.coefficient].times(element));
         }
         value

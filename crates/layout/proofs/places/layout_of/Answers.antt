@@ -1,13 +1,10 @@
 use Rattle.std.proofs.Common.{◌≡◌, ◌<◌, length, sym, refl, ap, ◌∙◌, arith, length-set}
 use Rattle.layout.specs.Places.{start_of}
-use Rattle.layout.proofs.Starts.{begun_more, start_none, start_more, start_all, size_small, sum_room}
+use Rattle.layout.proofs.Starts.{begun_more, start_none, start_more, start_all, sum_room}
 use Rattle.layout.proofs.places.layout_of.Goals as goal
 
 pub loop-t-init : goal.loop-t-init
 loop-t-init c = (refl, sym (start_none c.args.arrays.now), λ k h. absurd (omega arith))
-
-pub overflow_mul-total : goal.overflow_mul-total
-overflow_mul-total c = omega (arith, size_small c.args.arrays.now c.requires.1 c.loop-t.t)
 
 pub overflow_add-total : goal.overflow_add-total
 overflow_add-total c = omega (arith, c.loop-t.invariant.1, sum_room c.args.arrays.now c.loop-t.t c.requires.0 c.requires.1 c.loop-t-test.true)

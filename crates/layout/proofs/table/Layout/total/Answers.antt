@@ -1,5 +1,5 @@
 use Rattle.layout.proofs.PlaceLaws.{one_place_each}
 use Rattle.layout.proofs.table.Layout.total.Goals as goal
 
-pub returns : goal.returns
-returns c = record { value = c.args.self.now.summed; matching = one_place_each c.args.self.now.arrays.now }
+pub returns-clause-matching : goal.returns-clause-matching
+returns-clause-matching c = one_place_each _

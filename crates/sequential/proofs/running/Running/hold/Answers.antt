@@ -2,5 +2,5 @@ use Rattle.nest.specs.Views.{said}
 use Rattle.sequential.proofs.Kept.{parts_of, target_reached}
 use Rattle.sequential.proofs.running.Running.hold.Goals as goal
 
-pub place_in-requires : goal.place_in-requires
-place_in-requires g c = target_reached c.args.self.now.layout.arrays.now (said c.args.self.now.statement.now) (parts_of _ _ c.args.self.now.kept) c.args.at c.requires.within
+pub place-requires : goal.place-requires
+place-requires g c = target_reached c.args.self.now.layout.arrays.now (said c.args.self.now.statement.now) (parts_of _ _ c.args.self.now.kept) c.args.at c.requires.within

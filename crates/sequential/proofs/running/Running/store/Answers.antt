@@ -2,5 +2,5 @@ use Rattle.nest.specs.Views.{said}
 use Rattle.sequential.proofs.Kept.{parts_of, target_reached}
 use Rattle.sequential.proofs.running.Running.store.Goals as goal
 
-pub place_in-place-requires : goal.place_in-place-requires
-place_in-place-requires g c = target_reached c.args.self.now.layout.arrays.now (said c.args.self.now.statement.now) (parts_of _ _ c.args.self.now.kept) c.args.at c.requires.within
+pub place-place-requires : goal.place-place-requires
+place-place-requires g c = target_reached c.args.self.now.layout.arrays.now (said c.args.self.now.statement.now) (parts_of _ _ c.args.self.now.kept) c.args.at c.requires.within
