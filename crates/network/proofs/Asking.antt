@@ -1,7 +1,7 @@
 -- Lists of requests put together, one request or one round at a time, and what a quiet round tells.
 use Rattle.std.proofs.Common.{◌≡◌, ℕ, zero, suc, ◌+◌, ◌≤◌, List, [], ◌∷◌, ◌++◌, sym, refl, ap, ◌∙◌, subst, inl, inr, arith}
 use Rattle.std.proofs.lemmas.Bool.{cases_eq}
-use Rattle.network.specs.Runs.{Asked, state_after, answers, tally, is_ran, is_ended, steps_run, CameTo, HasEnded, AllEnded, Names, NamesAll, in_turn}
+use Rattle.network.specs.Runs.{Asked, state_after, answers, tally, is_ran, is_ended, steps_run, CameTo, AllEnded, Names, NamesAll, in_turn}
 use Rattle.network.specs.declared.answer.Answer.{Answer}
 use Rattle.network.specs.declared.answer.Answer.TheVariants.{Ended}
 
@@ -85,7 +85,7 @@ quiet_tells {X} ask still s (suc n) h =
       unchanged = state_after_++ ask (in_turn n) (n ∷ []) s ∙ ap (λ (x : X). (ask x n).1) q.unchanged ∙ still s n last-quiet;
       at_most = omega (arith, counted, q.at_most, tells.0);
       all_said = λ e p b.
-          elim (cases_eq p n) [ inl same ↦ subst (λ (r : ℕ). HasEnded ask s r) (sym same) (tells.1 (omega (arith, counted, e, q.at_most, tells.0))) | inr apart ↦ q.all_said (omega (arith, counted, e, q.at_most, tells.0)) p (omega (arith, b, apart)) ];
+          elim (cases_eq p n) [ inl same ↦ rw same (tells.1 (omega (arith, counted, e, q.at_most, tells.0))) | inr apart ↦ q.all_said (omega (arith, counted, e, q.at_most, tells.0)) p (omega (arith, b, apart)) ];
       all_say = λ all.
           omega (arith, counted, q.all_say (λ p b. all p (omega (arith, b))), ended_is_one (ask s n).0 (all n (omega arith)));
     }

@@ -1,5 +1,5 @@
 -- The cases of a request to boards that a list of desks holds: rows of depth 1, and each board puts to one other.
-use Rattle.std.proofs.Common.{◌≡◌, ℕ, ◌<◌, ◌≤◌, List, [], length, get_or, set, Some, None, Option, sym, refl, ap, ◌∙◌, subst, arith}
+use Rattle.std.proofs.Common.{◌≡◌, ℕ, ◌<◌, ◌≤◌, List, [], length, get_or, set, Some, None, Option, sym, refl, ap, ◌∙◌, arith}
 use Rattle.std.proofs.Math.ListN.{get_or-map}
 use Rattle.std.proofs.Math.Seq.{map-set_same}
 use Rattle.std.proofs.lemmas.List.{length-map, map-set, set-get_or}
@@ -35,7 +35,7 @@ module _ {S : Type 0} (line : Line S) (desks : List (Desk S)) (p : ℕ) where
 
   -- the same, under another name of the desks
   pub told : {a : Answer} {desks' desks'' : List (Desk S)} → Left a desks' → desks'' ≡ desks' → Left a desks''
-  told {a} x e = subst (Left a) (sym e) x
+  told x e = rw e x
 
   -- the same, by the two lists that are left
   by_lists : {a : Answer} (desks' : List (Desk S)) {owns' : List S} {letters' : List (Option ℕ)}

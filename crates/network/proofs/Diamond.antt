@@ -1,8 +1,8 @@
 -- Whatever answers requests so that two boards that would run do not disturb each other: where any list of requests leads,
 -- beside one complete list. It knows no network.
-use Rattle.std.proofs.Common.{◌≡◌, ℕ, ◌+◌, ◌<◌, ◌≢◌, ◌⊎◌, List, [], ◌∷◌, length, sym, refl, ap, ◌∙◌, subst, inl, inr, arith}
+use Rattle.std.proofs.Common.{◌≡◌, ℕ, ◌+◌, ◌<◌, ◌≢◌, ◌⊎◌, List, [], ◌∷◌, length, refl, ap, ◌∙◌, inl, inr, arith}
 use Rattle.std.proofs.lemmas.Bool.{cases_eq}
-use Rattle.network.specs.Runs.{Asked, state_after, answers, is_ran, tally, steps_run, WouldRun, HasEnded, AllEnded, AllRan, Complete}
+use Rattle.network.specs.Runs.{Asked, state_after, answers, is_ran, tally, steps_run, WouldRun, AllEnded, AllRan, Complete}
 use Rattle.network.specs.Laws.{Undisturbed, Led}
 use Rattle.network.specs.declared.answer.Answer.{Answer}
 use Rattle.network.specs.declared.answer.Answer.TheVariants.{Ran, Ended}
@@ -38,7 +38,7 @@ module _ {X : Type 0} (ask : Asked X) (boards : ℕ)
         → state_after ask s list ≡ end → WouldRun ask s p → Rest ask (ask s p).1 1 (length list) end
     unfolding state_after
     exchange [] s end p done runs same h =
-        absurd (ran_not_ended (ask s p).0 h (subst (λ (x : X). HasEnded ask x p) (sym same) (done p (inside s p h))))
+        absurd (ran_not_ended (ask s p).0 h (rw same (done p (inside s p h))))
     exchange (q ∷ list) s end p done runs same h =
         pick (cases_eq p q) (λ ne. exchange list (ask s q).1 end p done runs.1 same (diamond s p q ne h runs.0).first_still_runs)
       where
@@ -47,7 +47,7 @@ module _ {X : Type 0} (ask : Asked X) (boards : ℕ)
         pick (inl e) ih = record {
           list = list;
           counted = omega arith;
-          runs = subst (λ (r : ℕ). AllRan ask (ask s r).1 list) (sym e) runs.1;
+          runs = rw e runs.1;
           same_end = ap (λ (r : ℕ). state_after ask (ask s r).1 list) e ∙ same;
         }
         pick (inr ne) ih =
@@ -56,7 +56,7 @@ module _ {X : Type 0} (ask : Asked X) (boards : ℕ)
             record {
               list = q ∷ r.list;
               counted = omega (arith, r.counted);
-              runs = (m.second_still_runs, subst (λ (x : X). AllRan ask x r.list) (sym m.one_state) r.runs);
+              runs = (m.second_still_runs, rw m.one_state r.runs);
               same_end = ap (λ (x : X). state_after ask x r.list) m.one_state ∙ r.same_end;
             }
 
@@ -80,7 +80,7 @@ module _ {X : Type 0} (ask : Asked X) (boards : ℕ)
             record {
               list = list;
               counted = omega (arith, z);
-              runs = subst (λ (x : X). AllRan ask x list) (sym e) runs;
+              runs = rw e runs;
               same_end = ap (λ (x : X). state_after ask x list) e ∙ same;
             }
 
@@ -108,7 +108,7 @@ module _ {X : Type 0} (ask : Asked X) (boards : ℕ)
         by_rest : (rest : List ℕ) → steps_run ask s requests + length rest ≡ length list → AllRan ask now rest
             → state_after ask now rest ≡ state_after ask s list → Led ask boards s list requests (state_after ask s list)
         by_rest [] n runs same =
-            let done : AllEnded ask boards now = subst (λ (x : X). AllEnded ask boards x) (sym same) c.ends_all in
+            let done : AllEnded ask boards now = rw same c.ends_all in
             record {
               some_board_would_run = λ p b not_yet. absurd (not_yet (done p b));
               at_most = omega (arith, n);

@@ -1,5 +1,5 @@
 -- What a driver's loops keep, over plain values: what boards are, and what the requests to them came to.
-use Rattle.std.proofs.Common.{◌≡◌, ℕ, ◌+◌, ◌≤◌, List, [], ◌∷◌, ◌++◌, refl, ap, ◌∙◌, subst, add-one, arith}
+use Rattle.std.proofs.Common.{◌≡◌, ℕ, ◌+◌, ◌≤◌, List, [], ◌∷◌, ◌++◌, refl, ap, ◌∙◌, add-one, arith}
 use Rattle.network.specs.Network.{State}
 use Rattle.network.specs.Fixed.{Fixed, asks}
 use Rattle.network.specs.Runs.{Asked, is_ran, is_ended, CameTo, in_turn}
@@ -51,4 +51,4 @@ in_turn_more n = rw add-one refl
 -- What a list of requests came to, under another name of the list.
 pub came_as : {X : Type 0} {ask : Asked X} {s t : X} {asked asked' : List ℕ} {ran ended : ℕ}
     → CameTo ask s asked ran ended t → asked ≡ asked' → CameTo ask s asked' ran ended t
-came_as {ask = ask} {s = s} {t = t} {ran = ran} {ended = ended} c e = subst (λ (l : List ℕ). CameTo ask s l ran ended t) e c
+came_as c e = rw (← e) c

@@ -1,5 +1,5 @@
 -- How a write to the lists that hold a state shows in the state, and so what a request comes to in terms of the lists.
-use Rattle.std.proofs.Common.{◌≡◌, ℕ, ◌+◌, ◌<◌, ◌≤◌, eqb, List, [], ◌∷◌, length, get_or, set, sym, refl, ap, ◌∙◌, subst, arith, sum_by}
+use Rattle.std.proofs.Common.{◌≡◌, ℕ, ◌+◌, ◌<◌, ◌≤◌, eqb, List, [], ◌∷◌, length, get_or, set, sym, refl, ap, ◌∙◌, arith, sum_by}
 use mathlib.Core.Path.{fun_ext}
 use Rattle.std.proofs.lemmas.Bool.Decides.{nat_tests}
 use Rattle.std.proofs.lemmas.Grind.{common_steps}
@@ -58,8 +58,7 @@ module _ {L S C : Type 0} (way : Way L S C) (owns : List S) (slots : List C) (p 
   -- the same, under other names of the answer and the lists
   pub told : {a a' : Answer} {owns' owns'' : List S} {slots' slots'' : List C} → Left a owns' slots'
       → a' ≡ a → owns'' ≡ owns' → slots'' ≡ slots' → Left a' owns'' slots''
-  told {a} {a'} {owns'} {owns''} {slots'} {slots''} x e f h =
-      subst (λ b. Left b owns'' slots'') (sym e) (subst (λ o. Left a o slots'') (sym f) (subst (Left a owns') (sym h) x))
+  told x e f h = rw (e, f, h) x
 
   unchanged : (a : Answer) → is_ran a ≡ 0 → asks way.fixed held p ≡ (a, held) → Left a owns slots
   unfolding held

@@ -1,5 +1,5 @@
 -- The relay's complete list, for every number of stations, and where it ends.
-use Rattle.std.proofs.Common.{◌≡◌, ℕ, zero, suc, ◌+◌, ◌-◌, ◌<◌, ◌≤◌, Bool, cond, ◌&&◌, eqb, ltb, ◌≢◌, ◌⊎◌, List, [], ◌∷◌, ◌++◌, length, get_or, set, replicate, Some, None, Option, sym, ap, ◌∙◌, subst, inl, inr, add-one, arith, MatchOption}
+use Rattle.std.proofs.Common.{◌≡◌, ℕ, zero, suc, ◌+◌, ◌-◌, ◌<◌, ◌≤◌, Bool, cond, ◌&&◌, eqb, ltb, ◌≢◌, ◌⊎◌, List, [], ◌∷◌, ◌++◌, length, get_or, set, replicate, Some, None, Option, sym, ap, ◌∙◌, inl, inr, add-one, arith, MatchOption}
 use mathlib.Core.Path.{fun_ext}
 use lib.ListN.{get_or-replicate, get_or-eq_default}
 use Rattle.std.proofs.lemmas.Bool.{cases_eq}
@@ -135,7 +135,7 @@ module _ (n : ℕ) (v : ℕ → ℕ) (s : State ℕ Station) (adds : (p : ℕ) �
       let before = ran_to k (omega arith) in
       let both = both_ran k (omega arith) in
       let at = before.1 in (
-        all_ran_++ ask (twice_in_turn k) (k ∷ k ∷ []) s before.0 (subst (λ (x : State ℕ Station). AllRan ask x (k ∷ k ∷ [])) (sym at) both.0),
+        all_ran_++ ask (twice_in_turn k) (k ∷ k ∷ []) s before.0 (rw at both.0),
         state_after_++ ask (twice_in_turn k) (k ∷ k ∷ []) s ∙ ap (λ (x : State ℕ Station). state_after ask x (k ∷ k ∷ [])) at ∙ both.1 ∙ ap ended_to (add-one k),
       )
 

@@ -4,7 +4,7 @@ use Rattle.std.proofs.lemmas.Bool.Decides.{nat_tests}
 use Rattle.network.specs.Network.{Network, State, Step, ends, goes_on, puts, takes}
 use Rattle.network.specs.Request.{Decision, absent, able, answer, decide, request}
 use Rattle.network.specs.Runs.{Asked, state_after, answers, is_ran, tally, steps_run, WouldRun, HasEnded, AllRan, Complete, Names}
-use Rattle.network.specs.Laws.{Led, OrdersCommute, EveryListCompletes, DeeperRowsSameEnd, QuietRoundIsEnd}
+use Rattle.network.specs.Laws.{OrdersCommute, EveryListCompletes, DeeperRowsSameEnd, QuietRoundIsEnd}
 use Rattle.network.specs.declared.answer.Answer.{Answer}
 use Rattle.network.specs.declared.answer.Answer.TheVariants.{Ended}
 use Rattle.network.proofs.Diamond.{ran_not_zero, led_anywhere}
@@ -33,7 +33,7 @@ runs_deeper {L} {S} net depth deeper deep (p ∷ list) s runs =
     let e = request_deeper net depth deeper s p deep runs.0 in
     let r = runs_deeper net depth deeper deep list (request net depth s p).1 runs.1 in
     let same : (request net deeper s p).1 ≡ (request net depth s p).1 = ap (λ x. x.1) e in
-    ((ap (λ x. x.0) e ∙ runs.0, subst (λ (x : State L S). AllRan (request net deeper) x list) (sym same) r.0), ap (λ x. state_after (request net deeper) x list) same ∙ r.1)
+    ((ap (λ x. x.0) e ∙ runs.0, rw same r.0), ap (λ x. state_after (request net deeper) x list) same ∙ r.1)
 
 -- A board says Ended whatever the depth.
 
@@ -62,13 +62,13 @@ deeper_rows_same_end L S net depth deeper s list deep c =
     let whole : Complete (request net deeper) net.boards s list =
     record {
       runs = r.0;
-      ends_all = λ p b. subst (λ (x : State L S). HasEnded (request net deeper) x p) (sym r.1) (ended_deeper net depth deeper _ p (c.ends_all p b));
+      ends_all = λ p b. rw r.1 (ended_deeper net depth deeper _ p (c.ends_all p b));
     }
     in
     record {
       complete = whole;
       same_end = r.1;
-      led = λ requests. subst (Led (request net deeper) net.boards s list requests) r.1 (every_list_completes L S net deeper s list whole requests);
+      led = λ requests. rw (← r.1) (every_list_completes L S net deeper s list whole requests);
     }
 
 -- A board that would run is not silent in a round that names it and in which none ran.
@@ -83,7 +83,7 @@ named_ran {X} ask still (p ∷ round) s q quiet named h =
     pick named z (λ n. named_ran ask still round s q rest n h)
   where
     pick : (q ≡ p) ⊎ Names round q → is_ran (ask s p).0 ≡ 0 → (Names round q → ⊥) → ⊥
-    pick (inl e) z later = ran_not_zero (ask s p).0 (subst (λ (r : ℕ). WouldRun ask s r) e h) z
+    pick (inl e) z later = ran_not_zero (ask s p).0 (rw e at h) z
     pick (inr n) z later = later n
 
 ended_or_not : (a : Answer) → (a ≡ Ended) ⊎ (a ≡ Ended → ⊥)

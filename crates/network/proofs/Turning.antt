@@ -1,5 +1,5 @@
 -- The cases of a request to the ring.
-use Rattle.std.proofs.Common.{◌≡◌, ℕ, suc, ◌+◌, ◌-◌, ◌<◌, ◌≤◌, Bool, true, false, ◌≢◌, List, [], ◌∷◌, length, length-set, get_or, set, sym, refl, ap, ◌∙◌, subst, arith}
+use Rattle.std.proofs.Common.{◌≡◌, ℕ, suc, ◌+◌, ◌-◌, ◌<◌, ◌≤◌, Bool, true, false, ◌≢◌, List, [], ◌∷◌, length, length-set, get_or, set, sym, refl, ap, ◌∙◌, arith}
 use lib.ListN.{length-replicate, replicate-append-replicate}
 use Rattle.std.proofs.lemmas.Bool.Decides.{nat_tests}
 use Rattle.network.specs.Network.{Network, State}
@@ -57,12 +57,11 @@ module _ (x : Ring) (p : ℕ) where
 
   -- the same, under other names of the lists
   pub told : {a : Answer} {seats seats' : List Seat} {tokens tokens' : List ℕ} → Left a seats tokens → seats' ≡ seats → tokens' ≡ tokens → Left a seats' tokens'
-  told {a} {seats' = seats'} {tokens = tokens} l e f = subst (Left a seats') (sym f) (subst (λ s. Left a s tokens) (sym e) l)
+  told l e f = rw (e, f) l
 
   -- the seat of board p was written
   written : (s : Seat) (tokens : List ℕ) → kept.Left (way count) x.seats.now x.tokens.now p Ran (set x.seats.now p s) tokens → Left Ran (set x.seats.now p s) tokens
-  written s tokens l =
-      subst (λ n. Answered (way count).fixed (way n).fixed (ring_state count x.seats.now x.tokens.now) (ring_left x.seats.now) p Ran (ring_state n (set x.seats.now p s) tokens) (ring_left (set x.seats.now p s))) (sym (length-set x.seats.now p s)) l
+  written s tokens l = rw (length-set x.seats.now p s) l
 
   pub refused : count ≤ p → Left Refused x.seats.now x.tokens.now
   unfolding ring_of
@@ -114,7 +113,4 @@ second_same e = cc
 pub went_as : {net : Network (Unit {0}) Seat} {depth count : ℕ} {s : State (Unit {0}) Seat} {said said' : Bool} (n : ℕ) {seats seats' : List Seat} {tokens tokens' : List ℕ}
     → WentRound net depth s (ring_state count seats tokens) said → n ≡ count → seats' ≡ seats → tokens' ≡ tokens → said' ≡ said
     → WentRound net depth s (ring_state n seats' tokens') said'
-went_as {net} {depth} {count} {s} {said} {said'} n {seats} {seats'} {tokens} {tokens'} w e f h r =
-    subst (WentRound net depth s (ring_state n seats' tokens')) (sym r)
-    (subst (λ k. WentRound net depth s (ring_state k seats' tokens') said) (sym e)
-    (subst (λ x. WentRound net depth s (ring_state count x tokens') said) (sym f) (subst (λ x. WentRound net depth s (ring_state count seats x) said) (sym h) w)))
+went_as n w e f h r = rw (r, e, f, h) w

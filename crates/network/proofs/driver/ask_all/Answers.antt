@@ -23,6 +23,6 @@ returns g c =
     let start = c.args.boards.now in
     record {
       came_to = came_as inv.came (take_all _ _ c.loop-board-test.false);
-      led = led_by_any (b.fixed start).network (b.fixed start).depth (b.state start) c.args.requests.now;
+      led = led_by_any (b.fixed start) (b.state start) c.args.requests.now;
       same = inv.same;
     }

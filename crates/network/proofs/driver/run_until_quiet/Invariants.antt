@@ -6,7 +6,7 @@ abbrev pub invariant-loop-tally : goal.invariant-loop-tally
 invariant-loop-tally g l =
     let b = g.N.Boards in
     let start = l.initial.boards in
-    (b.fixed l.boards ≡ b.fixed start) × RoundsTo (b.fixed start).network (b.fixed start).depth (b.state start) (b.state l.boards)
+    (b.fixed l.boards ≡ b.fixed start) × RoundsTo (b.fixed start) (b.state start) (b.state l.boards)
 
 abbrev pub decreases-loop-tally : goal.decreases-loop-tally
 decreases-loop-tally g l = g.N.Boards.left l.boards
