@@ -8,13 +8,14 @@ use Rattle.nest.specs.declared.terms.MapWord.{MapWord}
 use Rattle.nest.specs.declared.terms.MapWord.TheVariants.{One, Block, Cyclic, CyclicBy}
 use Rattle.nest.specs.declared.terms.Array.{Array}
 use Rattle.nest.specs.declared.terms.Range.{Range}
+use Rattle.nest.specs.declared.terms.Variable.{Variable}
 use Rattle.nest.specs.declared.terms.Variable.TheVariants.{I, J}
 use Rattle.nest.specs.declared.terms.Offset.{Offset}
 use Rattle.nest.specs.declared.terms.Offset.TheVariants.{Plus, Minus}
 use Rattle.nest.specs.declared.terms.Subscript.{Subscript}
 use Rattle.nest.specs.declared.terms.Access.{Access}
 use Rattle.nest.specs.declared.terms.ReadTerm.{ReadTerm}
-use Rattle.sheet.specs.Verdicts.{Verdict, fine, wrong, ◌>>=◌, nth, within, offset_of, map_of, variable_of, access_of, grid_of, array_of, range_from, Head, head_of, put_of, read_of, count_of}
+use Rattle.sheet.specs.Verdicts.{Verdict, fine, wrong, ◌>>=◌, nth, within, offset_of, map_of, variable_of, subscript_of, access_of, grid_of, array_of, range_from, Head, head_of, put_of, read_of, count_of}
 use Rattle.nest.specs.Terms.{far, inside, nowhere}
 use Rattle.sheet.specs.Lines.{judged, line_by, times, statement_of, lines_of}
 use Rattle.nest.specs.Terms.{Said, Sheet}
@@ -120,6 +121,12 @@ head_kept f h e =
       range_kept_lem (nth 3 f) c.0 d.0 j.0 (within_kept 1 32 (nth 3 f) c.0 c.1) (within_kept 1 32 (nth 4 f) d.0 d.1) j.1,
     )
 
+subscript_kept_lem : (least : ℕ) (v : Variable) (p q : Piece) (s : Subscript) → subscript_of least v p q ≡ fine s → (subscript_kept least s ≡ true) × (s.variable ≡ v)
+subscript_kept_lem least v p q s e =
+    let a = bind_inv (within least 4 p) _ s e in
+    let m = bind_inv (offset_of q) _ s a.2 in
+    subst (λ x. (subscript_kept least x ≡ true) × (x.variable ≡ v)) (fine_same m.2) (and_from _ _ (within_kept least 4 p a.0 a.1) (offset_kept q m.0 m.1), refl)
+
 module _ (arrays : List Array) (i j : Range) where
   access_kept_lem : (least : ℕ) (p : Piece) (t : ℕ) (q : Piece) (row : Subscript) (r : Piece) (column : Subscript) (x : Access) → leb 1 t ≡ true → subscript_kept least row ≡ true → subscript_kept least column ≡ true → access_of arrays i j p t q row r column ≡ fine x → (access_kept least arrays i j x ≡ true) × (x.row ≡ row) × (x.column ≡ column)
   access_kept_lem least p t q row r column x one rk ck e =
@@ -136,33 +143,25 @@ module _ (arrays : List Array) (i j : Range) where
 put_kept : (arrays : List Array) (h : Head) (f : List Piece) (x : Access) → put_of arrays h f ≡ fine x → (access_kept 1 arrays h.i h.j x ≡ true) × (is_i x.row.variable ≡ true) × (not (is_i x.column.variable) ≡ true)
 put_kept arrays h f x e =
     let t = bind_inv (within 1 4 (nth 0 f)) _ x e in
-    let a = bind_inv (within 1 4 (nth 1 f)) _ x t.2 in
-    let m = bind_inv (offset_of (nth 2 f)) _ x a.2 in
-    let b = bind_inv (within 1 4 (nth 3 f)) _ x m.2 in
-    let n = bind_inv (offset_of (nth 4 f)) _ x b.2 in
-    let k = access_kept_lem arrays h.i h.j 1 (nth 0 f) t.0 (nth 1 f) (record { variable = I; factor = a.0; offset = m.0 }) (nth 3 f) (record { variable = J; factor = b.0; offset = n.0 }) x
-    (and_parts (leb 1 t.0) (leb t.0 4) (within_kept 1 4 (nth 0 f) t.0 t.1)).0
-    (and_from _ _ (within_kept 1 4 (nth 1 f) a.0 a.1) (offset_kept (nth 2 f) m.0 m.1))
-    (and_from _ _ (within_kept 1 4 (nth 3 f) b.0 b.1) (offset_kept (nth 4 f) n.0 n.1))
-    n.2 in
-    (k.0, ap (λ s. is_i s.variable) k.1, ap (λ s. not (is_i s.variable)) k.2)
+    let r = bind_inv (subscript_of 1 I (nth 1 f) (nth 2 f)) _ x t.2 in
+    let c = bind_inv (subscript_of 1 J (nth 3 f) (nth 4 f)) _ x r.2 in
+    let rk = subscript_kept_lem 1 I (nth 1 f) (nth 2 f) r.0 r.1 in
+    let ck = subscript_kept_lem 1 J (nth 3 f) (nth 4 f) c.0 c.1 in
+    let k = access_kept_lem arrays h.i h.j 1 (nth 0 f) t.0 (nth 1 f) r.0 (nth 3 f) c.0 x (and_parts (leb 1 t.0) (leb t.0 4) (within_kept 1 4 (nth 0 f) t.0 t.1)).0 rk.0 ck.0 c.2 in
+    (k.0, ap (λ s. is_i s.variable) k.1 ∙ ap is_i rk.1, ap (λ s. not (is_i s.variable)) k.2 ∙ ap (λ v. not (is_i v)) ck.1)
 
 read_kept_lem : (arrays : List Array) (h : Head) (f : List Piece) (x : ReadTerm) → read_of arrays h f ≡ fine x → read_kept arrays h.i h.j x ≡ true
 read_kept_lem arrays h f x e =
-    let c = bind_inv (within 0 7 (nth 0 f)) _ x e in
-    let t = bind_inv (within 1 4 (nth 1 f)) _ x c.2 in
-    let a = bind_inv (within 0 4 (nth 3 f)) _ x t.2 in
-    let m = bind_inv (offset_of (nth 4 f)) _ x a.2 in
-    let b = bind_inv (within 0 4 (nth 6 f)) _ x m.2 in
-    let n = bind_inv (offset_of (nth 7 f)) _ x b.2 in
-    let y = bind_inv (access_of arrays h.i h.j (nth 1 f) t.0 (nth 3 f) (record { variable = variable_of (nth 2 f); factor = a.0; offset = m.0 }) (nth 6 f) (record { variable = variable_of (nth 5 f); factor = b.0; offset = n.0 })) _ x n.2 in
-    let k = access_kept_lem arrays h.i h.j 0 (nth 1 f) t.0 (nth 3 f) (record { variable = variable_of (nth 2 f); factor = a.0; offset = m.0 }) (nth 6 f) (record { variable = variable_of (nth 5 f); factor = b.0; offset = n.0 }) y.0
-    (and_parts (leb 1 t.0) (leb t.0 4) (within_kept 1 4 (nth 1 f) t.0 t.1)).0
-    (and_from _ _ (within_kept 0 4 (nth 3 f) a.0 a.1) (offset_kept (nth 4 f) m.0 m.1))
-    (and_from _ _ (within_kept 0 4 (nth 6 f) b.0 b.1) (offset_kept (nth 7 f) n.0 n.1))
-    y.1 in
+    let n = bind_inv (within 0 7 (nth 0 f)) _ x e in
+    let t = bind_inv (within 1 4 (nth 1 f)) _ x n.2 in
+    let r = bind_inv (subscript_of 0 (variable_of (nth 2 f)) (nth 3 f) (nth 4 f)) _ x t.2 in
+    let c = bind_inv (subscript_of 0 (variable_of (nth 5 f)) (nth 6 f) (nth 7 f)) _ x r.2 in
+    let y = bind_inv (access_of arrays h.i h.j (nth 1 f) t.0 (nth 3 f) r.0 (nth 6 f) c.0) _ x c.2 in
+    let rk = subscript_kept_lem 0 (variable_of (nth 2 f)) (nth 3 f) (nth 4 f) r.0 r.1 in
+    let ck = subscript_kept_lem 0 (variable_of (nth 5 f)) (nth 6 f) (nth 7 f) c.0 c.1 in
+    let k = access_kept_lem arrays h.i h.j 0 (nth 1 f) t.0 (nth 3 f) r.0 (nth 6 f) c.0 y.0 (and_parts (leb 1 t.0) (leb t.0 4) (within_kept 1 4 (nth 1 f) t.0 t.1)).0 rk.0 ck.0 y.1 in
     subst (λ z. read_kept arrays h.i h.j z ≡ true) (fine_same y.2)
-    (and_from _ _ (upper 0 7 c.0 (within_kept 0 7 (nth 0 f) c.0 c.1)) k.0)
+    (and_from _ _ (upper 0 7 n.0 (within_kept 0 7 (nth 0 f) n.0 n.1)) k.0)
 
 -- so many values, each of which keeps what one keeps
 times_kept : {V : Type 0} (kept : V → Bool) (one : Text → Read V) → ((t : Text) (v : V) (u : Text) → one t ≡ got v u → kept v ≡ true) → (n : ℕ) (t : Text) (vs : List V) (u : Text) → times n one t ≡ got vs u → (each kept vs ≡ true) × (length vs ≡ n)

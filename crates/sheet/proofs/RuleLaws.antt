@@ -8,9 +8,10 @@ use Rattle.tokens.specs.Values.{magnitude, begins_with}
 use Rattle.nest.specs.declared.terms.Array.{Array}
 use Rattle.nest.specs.declared.terms.Access.{Access}
 use Rattle.nest.specs.declared.terms.Range.{Range}
+use Rattle.nest.specs.declared.terms.Variable.{Variable}
 use Rattle.nest.specs.declared.terms.Variable.TheVariants.{I, J}
 use Rattle.nest.specs.declared.terms.Subscript.{Subscript}
-use Rattle.sheet.specs.Verdicts.{Verdict, fine, wrong, ◌>>=◌, wrong_at, nth, within, offset_of, map_of, variable_of, access_of, grid_of, array_of, range_from, Head, head_of, put_of, read_of, count_of}
+use Rattle.sheet.specs.Verdicts.{Verdict, fine, wrong, ◌>>=◌, wrong_at, nth, within, offset_of, map_of, variable_of, subscript_of, access_of, grid_of, array_of, range_from, Head, head_of, put_of, read_of, count_of}
 use Rattle.nest.specs.Terms.{inside, nowhere}
 
 -- a value, or a refusal with a number from 2 to 6 at such a place
@@ -50,6 +51,9 @@ module _ (At : ℕ → ℕ → Type 0) where
       (λ _. cond_both (begins_with 98 p.text) _ _ (Faulted At) (λ _. tt)
       (λ _. cond_both (leb (length p.text) 6) _ _ (Faulted At) (λ _. tt) (λ _. bound (within 1 32 p) _ (within_faulted 1 32 p h) (λ k. tt))))
 
+  subscript_faulted : (least : ℕ) (v : Variable) (p q : Piece) → At p.line p.byte → At q.line q.byte → Faulted At (subscript_of least v p q)
+  subscript_faulted least v p q hp hq = bound (within least 4 p) _ (within_faulted least 4 p hp) (λ a. bound (offset_of q) _ (offset_faulted q hq) (λ m. tt))
+
   access_faulted : (arrays : List Array) (i j : Range) (p : Piece) (t : ℕ) (q : Piece) (row : Subscript) (r : Piece) (column : Subscript)
       → At p.line p.byte → At q.line q.byte → At r.line r.byte → Faulted At (access_of arrays i j p t q row r column)
   access_faulted arrays i j p t q row r column hp hq hr =
@@ -69,8 +73,8 @@ module _ (At : ℕ → ℕ → Type 0) where
     number_at : (low high k : ℕ) → k < n → Faulted At (within low high (nth k f))
     number_at low high k l = within_faulted low high (nth k f) (field_at k l)
 
-    offset_at : (k : ℕ) → k < n → Faulted At (offset_of (nth k f))
-    offset_at k l = offset_faulted (nth k f) (field_at k l)
+    subscript_at : (least : ℕ) (v : Variable) (k l : ℕ) → k < n → l < n → Faulted At (subscript_of least v (nth k f) (nth l f))
+    subscript_at least v k l hk hl = subscript_faulted least v (nth k f) (nth l f) (field_at k hk) (field_at l hl)
 
 pub count_rule : (low high : ℕ) → RuleLaw 1 (count_of low high)
 count_rule low high At f h = number_at At 1 f h low high 0 (omega arith)
@@ -100,21 +104,15 @@ head_rule At f h =
 pub put_rule : (arrays : List Array) (head : Head) → RuleLaw 5 (put_of arrays head)
 put_rule arrays head At f h =
     bound At (within 1 4 (nth 0 f)) _ (number_at At 5 f h 1 4 0 (omega arith)) (λ t.
-    bound At (within 1 4 (nth 1 f)) _ (number_at At 5 f h 1 4 1 (omega arith)) (λ a.
-    bound At (offset_of (nth 2 f)) _ (offset_at At 5 f h 2 (omega arith)) (λ m.
-    bound At (within 1 4 (nth 3 f)) _ (number_at At 5 f h 1 4 3 (omega arith)) (λ b.
-    bound At (offset_of (nth 4 f)) _ (offset_at At 5 f h 4 (omega arith)) (λ n.
-    access_faulted At arrays head.i head.j (nth 0 f) t (nth 1 f) (record { variable = I; factor = a; offset = m }) (nth 3 f) (record { variable = J; factor = b; offset = n }) (field_at At 5 f h 0 (omega arith)) (field_at At 5 f h 1 (omega arith)) (field_at At 5 f h 3 (omega arith)))))))
+    bound At (subscript_of 1 I (nth 1 f) (nth 2 f)) _ (subscript_at At 5 f h 1 I 1 2 (omega arith) (omega arith)) (λ row.
+    bound At (subscript_of 1 J (nth 3 f) (nth 4 f)) _ (subscript_at At 5 f h 1 J 3 4 (omega arith) (omega arith)) (λ column.
+    access_faulted At arrays head.i head.j (nth 0 f) t (nth 1 f) row (nth 3 f) column (field_at At 5 f h 0 (omega arith)) (field_at At 5 f h 1 (omega arith)) (field_at At 5 f h 3 (omega arith)))))
 
 pub read_rule : (arrays : List Array) (head : Head) → RuleLaw 8 (read_of arrays head)
 read_rule arrays head At f h =
     bound At (within 0 7 (nth 0 f)) _ (number_at At 8 f h 0 7 0 (omega arith)) (λ k.
     bound At (within 1 4 (nth 1 f)) _ (number_at At 8 f h 1 4 1 (omega arith)) (λ t.
-    bound At (within 0 4 (nth 3 f)) _ (number_at At 8 f h 0 4 3 (omega arith)) (λ a.
-    bound At (offset_of (nth 4 f)) _ (offset_at At 8 f h 4 (omega arith)) (λ m.
-    bound At (within 0 4 (nth 6 f)) _ (number_at At 8 f h 0 4 6 (omega arith)) (λ b.
-    bound At (offset_of (nth 7 f)) _ (offset_at At 8 f h 7 (omega arith)) (λ n.
-    let row : Subscript = record { variable = variable_of (nth 2 f); factor = a; offset = m } in
-    let column : Subscript = record { variable = variable_of (nth 5 f); factor = b; offset = n } in
+    bound At (subscript_of 0 (variable_of (nth 2 f)) (nth 3 f) (nth 4 f)) _ (subscript_at At 8 f h 0 (variable_of (nth 2 f)) 3 4 (omega arith) (omega arith)) (λ row.
+    bound At (subscript_of 0 (variable_of (nth 5 f)) (nth 6 f) (nth 7 f)) _ (subscript_at At 8 f h 0 (variable_of (nth 5 f)) 6 7 (omega arith) (omega arith)) (λ column.
     bound At (access_of arrays head.i head.j (nth 1 f) t (nth 3 f) row (nth 6 f) column) _
-    (access_faulted At arrays head.i head.j (nth 1 f) t (nth 3 f) row (nth 6 f) column (field_at At 8 f h 1 (omega arith)) (field_at At 8 f h 3 (omega arith)) (field_at At 8 f h 6 (omega arith))) (λ x. tt)))))))
+    (access_faulted At arrays head.i head.j (nth 1 f) t (nth 3 f) row (nth 6 f) column (field_at At 8 f h 1 (omega arith)) (field_at At 8 f h 3 (omega arith)) (field_at At 8 f h 6 (omega arith))) (λ x. tt)))))

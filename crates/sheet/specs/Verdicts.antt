@@ -116,26 +116,29 @@ head_of f = do
   j ← range_from (nth 3 f) c d
   fine (record { mode = mode_of (nth 0 f); i = i; j = j })
 
+-- a subscript: its factor from least to 4, then its offset
+abbrev pub subscript_of : ℕ → Variable → Piece → Piece → Verdict Subscript
+subscript_of least variable p q = do
+  factor ← within least 4 p
+  offset ← offset_of q
+  fine (record { variable = variable; factor = factor; offset = offset })
+
 -- `put`
 abbrev pub put_of : List Array → Head → List Piece → Verdict Access
 put_of arrays h f = do
   t ← within 1 4 (nth 0 f)
-  a ← within 1 4 (nth 1 f)
-  m ← offset_of (nth 2 f)
-  b ← within 1 4 (nth 3 f)
-  n ← offset_of (nth 4 f)
-  access_of arrays h.i h.j (nth 0 f) t (nth 1 f) (record { variable = I; factor = a; offset = m }) (nth 3 f) (record { variable = J; factor = b; offset = n })
+  row ← subscript_of 1 I (nth 1 f) (nth 2 f)
+  column ← subscript_of 1 J (nth 3 f) (nth 4 f)
+  access_of arrays h.i h.j (nth 0 f) t (nth 1 f) row (nth 3 f) column
 
 -- `read`
 abbrev pub read_of : List Array → Head → List Piece → Verdict ReadTerm
 read_of arrays h f = do
   k ← within 0 7 (nth 0 f)
   t ← within 1 4 (nth 1 f)
-  a ← within 0 4 (nth 3 f)
-  m ← offset_of (nth 4 f)
-  b ← within 0 4 (nth 6 f)
-  n ← offset_of (nth 7 f)
-  x ← access_of arrays h.i h.j (nth 1 f) t (nth 3 f) (record { variable = variable_of (nth 2 f); factor = a; offset = m }) (nth 6 f) (record { variable = variable_of (nth 5 f); factor = b; offset = n })
+  row ← subscript_of 0 (variable_of (nth 2 f)) (nth 3 f) (nth 4 f)
+  column ← subscript_of 0 (variable_of (nth 5 f)) (nth 6 f) (nth 7 f)
+  x ← access_of arrays h.i h.j (nth 1 f) t (nth 3 f) row (nth 6 f) column
   fine (record { coefficient = k; source = x })
 
 -- a line with one number

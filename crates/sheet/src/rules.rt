@@ -2,7 +2,7 @@
 ghost use Rattle.std.specs.Prelude.{◌≡◌, ℕ, ◌-◌, ◌≤◌, length, IfOk};
 ghost use Rattle.tokens.specs.Views.{part_of};
 ghost use Rattle.nest.specs.Terms.{far, position, pick, inside};
-ghost use Rattle.sheet.specs.Verdicts.{Short, Near, within, offset_of, map_of, mode_of, variable_of, range_from, access_of};
+ghost use Rattle.sheet.specs.Verdicts.{Short, Near, within, offset_of, subscript_of, map_of, mode_of, variable_of, range_from, access_of};
 ghost use Rattle.sheet.specs.Answered.{field_verdict, nest_verdict};
 
 use crate::heading::Heading;
@@ -24,7 +24,7 @@ pub(crate) fn ranged(token: Token, low: usize, high: usize) -> Result<usize, Fie
     }
 }
 
-pub(crate) fn offset(token: Token) -> Result<Offset, FieldFault>
+fn offset(token: Token) -> Result<Offset, FieldFault>
     ensures value { field_verdict result ≡ offset_of (part_of token.entry) }
     ensures bound { IfOk result (λ c. far c ≤ 64) }
 {
@@ -34,6 +34,23 @@ pub(crate) fn offset(token: Token) -> Result<Offset, FieldFault>
     } else {
         Ok(Offset::Plus(n))
     }
+}
+
+/// A subscript, whose factor is from `least` to 4.
+pub(crate) fn subscript(
+    least: usize,
+    variable: Variable,
+    factor: Token,
+    by: Token,
+) -> Result<Subscript, FieldFault>
+    ensures value { field_verdict result ≡ subscript_of least variable (part_of factor.entry) (part_of by.entry) }
+    ensures bound { IfOk result Near }
+{
+    Ok(Subscript {
+        variable,
+        factor: ranged(factor, least, 4)?,
+        offset: offset(by)?,
+    })
 }
 
 pub(crate) fn map_word(token: Token) -> Result<MapWord, FieldFault>

@@ -6,9 +6,9 @@ ghost use Rattle.sheet.specs.Answered.{field_verdict, sheet_verdict};
 ghost use Rattle.sheet.specs.Heads.{headed};
 
 use crate::heading::Heading;
-use crate::rules::{AccessFields, access, map_word, mode, offset, range_from, ranged, variable};
+use crate::rules::{AccessFields, access, map_word, mode, range_from, ranged, subscript, variable};
 use nest::fault::{FieldFault, NestFault, SheetFault};
-use nest::terms::{Access, Array, Grid, ReadTerm, Subscript, Variable};
+use nest::terms::{Access, Array, Grid, ReadTerm, Variable};
 use tokens::part::Token;
 
 pub(crate) fn grid_of(fields: [Token; 2]) -> Result<Grid, SheetFault>
@@ -60,24 +60,13 @@ pub(crate) fn put_of(
     ensures { sheet_verdict (λ v. v) result ≡ put_of arrays.now (headed heading) (map part_of fields.entry) }
 {
     let [array, row_factor, row_offset, column_factor, column_offset] = fields;
-    let number = ranged(array, 1, 4)?;
-    let row = Subscript {
-        variable: Variable::I,
-        factor: ranged(row_factor, 1, 4)?,
-        offset: offset(row_offset)?,
-    };
-    let column = Subscript {
-        variable: Variable::J,
-        factor: ranged(column_factor, 1, 4)?,
-        offset: offset(column_offset)?,
-    };
     let named = AccessFields {
         array,
-        number,
+        number: ranged(array, 1, 4)?,
         row_factor,
-        row,
+        row: subscript(1, Variable::I, row_factor, row_offset)?,
         column_factor,
-        column,
+        column: subscript(1, Variable::J, column_factor, column_offset)?,
     };
     Ok(access(arrays, heading, named)?)
 }
@@ -100,24 +89,13 @@ pub(crate) fn read_of(
         column_offset,
     ] = fields;
     let coefficient = ranged(coefficient, 0, 7)?;
-    let number = ranged(array, 1, 4)?;
-    let row = Subscript {
-        variable: variable(row_variable),
-        factor: ranged(row_factor, 0, 4)?,
-        offset: offset(row_offset)?,
-    };
-    let column = Subscript {
-        variable: variable(column_variable),
-        factor: ranged(column_factor, 0, 4)?,
-        offset: offset(column_offset)?,
-    };
     let named = AccessFields {
         array,
-        number,
+        number: ranged(array, 1, 4)?,
         row_factor,
-        row,
+        row: subscript(0, variable(row_variable), row_factor, row_offset)?,
         column_factor,
-        column,
+        column: subscript(0, variable(column_variable), column_factor, column_offset)?,
     };
     Ok(ReadTerm {
         coefficient,
