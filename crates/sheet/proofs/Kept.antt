@@ -1,22 +1,20 @@
 -- What the lines of an accepted sheet keep. Assumes nothing.
-use Rattle.std.proofs.Common.{◌≡◌, ℕ, zero, suc, ◌-◌, ◌*◌, Bool, true, false, cond, not, ltb, leb, List, [], ◌∷◌, length, get_or, sym, refl, ap, ◌∙◌, subst, arith}
-use Rattle.std.proofs.lemmas.Bool.{and_from, and_parts, leb-true, lt-ltb}
+use Rattle.std.proofs.Common.{◌≡◌, ℕ, zero, suc, Bool, true, false, cond, not, leb, List, [], ◌∷◌, length, sym, refl, ap, ◌∙◌, subst, arith}
+use Rattle.std.proofs.lemmas.Bool.{and_from, and_parts}
+use Rattle.std.proofs.lemmas.Grind.{common_steps}
 use Rattle.tokens.specs.Texts.{Text, Piece, Read, got, refused, then, Form, fields_of, nothing_left}
-use Rattle.tokens.specs.Values.{magnitude, begins_with}
 use Rattle.nest.specs.declared.terms.Grid.{Grid}
 use Rattle.nest.specs.declared.terms.MapWord.{MapWord}
-use Rattle.nest.specs.declared.terms.MapWord.TheVariants.{One, Block, Cyclic, CyclicBy}
 use Rattle.nest.specs.declared.terms.Array.{Array}
 use Rattle.nest.specs.declared.terms.Range.{Range}
 use Rattle.nest.specs.declared.terms.Variable.{Variable}
 use Rattle.nest.specs.declared.terms.Variable.TheVariants.{I, J}
 use Rattle.nest.specs.declared.terms.Offset.{Offset}
-use Rattle.nest.specs.declared.terms.Offset.TheVariants.{Plus, Minus}
 use Rattle.nest.specs.declared.terms.Subscript.{Subscript}
 use Rattle.nest.specs.declared.terms.Access.{Access}
 use Rattle.nest.specs.declared.terms.ReadTerm.{ReadTerm}
 use Rattle.sheet.specs.Verdicts.{Verdict, fine, wrong, ◌>>=◌, nth, within, offset_of, map_of, variable_of, subscript_of, access_of, grid_of, array_of, range_from, Head, head_of, put_of, read_of, count_of}
-use Rattle.nest.specs.Terms.{far, inside, nowhere}
+use Rattle.nest.specs.Terms.{far}
 use Rattle.sheet.specs.Lines.{judged, line_by, times, statement_of, lines_of}
 use Rattle.nest.specs.Terms.{Said, Sheet}
 use Rattle.sheet.specs.Forms.{grid_form, arrays_form, array_form, sweeps_form, stmts_form, stmt_form, put_form, base_form, reads_form, read_form}
@@ -25,15 +23,15 @@ use Rattle.nest.specs.Sound.{between, each, is_i, grid_kept, map_kept, array_kep
 -- a reading that comes to a value came to one first
 pub then_inv : {V W : Type 0} (r : Read V) (f : V → Text → Read W) (w : W) (u : Text) → then r f ≡ got w u → (v : V) × (t : Text) × (r ≡ got v t) × (f v t ≡ got w u)
 then_inv (got v t) f w u e = (v, t, refl, e)
-then_inv (refused a b c) f w u e = let z : ◌≡◌ {A = ℕ} 0 1 = cc in absurd (omega arith)
+then_inv (refused a b c) f w u e = absurd (cc)
 
 pub bind_inv : {V W : Type 0} (x : Verdict V) (f : V → Verdict W) (w : W) → ◌>>=◌ x f ≡ fine w → (v : V) × (x ≡ fine v) × (f v ≡ fine w)
 bind_inv (fine v) f w e = (v, refl, e)
-bind_inv (wrong a b c) f w e = let z : ◌≡◌ {A = ℕ} 0 1 = cc in absurd (omega arith)
+bind_inv (wrong a b c) f w e = absurd (cc)
 
 judged_inv : {V : Type 0} (x : Verdict V) (t : Text) (v : V) (u : Text) → judged x t ≡ got v u → x ≡ fine v
 judged_inv (fine w) t v u e = cc
-judged_inv (wrong a b c) t v u e = let z : ◌≡◌ {A = ℕ} 0 1 = cc in absurd (omega arith)
+judged_inv (wrong a b c) t v u e = absurd (cc)
 
 -- a line that is accepted has fields whose verdict is its value
 pub line_inv : {V : Type 0} (form : Form) (rule : List Piece → Verdict V) (t : Text) (v : V) (u : Text) → line_by form rule t ≡ got v u → (fields : List Piece) × (rule fields ≡ fine v)
@@ -50,49 +48,22 @@ fine_same e = cc
 -- the tests that a verdict passed
 one_test : {V : Type 0} (a : Bool) (x : Verdict V) (l m n : ℕ) (v : V) → cond a x (wrong l m n) ≡ fine v → (a ≡ true) × (x ≡ fine v)
 one_test true x l m n v e = (refl, e)
-one_test false x l m n v e = let z : ◌≡◌ {A = ℕ} 0 1 = cc in absurd (omega arith)
+one_test false x l m n v e = absurd (cc)
 
 pub within_kept : (low high : ℕ) (p : Piece) (v : ℕ) → within low high p ≡ fine v → between low high v ≡ true
-within_kept low high p v e =
-    let a = one_test (leb low (magnitude p.text)) _ _ _ _ v e in
-    let b = one_test (leb (magnitude p.text) high) _ _ _ _ v a.1 in
-    let same : magnitude p.text ≡ v = cc b.1 in
-    subst (λ n. between low high n ≡ true) same (and_from _ _ a.0 b.0)
+within_kept low high p v e = grind (arith, common_steps)
 
 upper : (low high n : ℕ) → between low high n ≡ true → leb n high ≡ true
-upper low high n k = (and_parts (leb low n) (leb n high) k).1
+upper low high n k = grind (arith, common_steps)
 
 offset_kept : (p : Piece) (c : Offset) → offset_of p ≡ fine c → leb (far c) 64 ≡ true
-offset_kept p c e =
-    let a = bind_inv (within 0 64 p) _ c e in
-    pick (begins_with 45 p.text) a.0 a.2 (upper 0 64 a.0 (within_kept 0 64 p a.0 a.1))
-  where
-    pick : (b : Bool) (n : ℕ) → fine (cond b (Minus n) (Plus n)) ≡ fine c → leb n 64 ≡ true → leb (far c) 64 ≡ true
-    pick true n h k = let s : Minus n ≡ c = cc in subst (λ x. leb (far x) 64 ≡ true) s k
-    pick false n h k = let s : Plus n ≡ c = cc in subst (λ x. leb (far x) 64 ≡ true) s k
+offset_kept p c e = grind (arith, common_steps)
 
 map_kept_lem : (p : Piece) (m : MapWord) → map_of p ≡ fine m → map_kept m ≡ true
-map_kept_lem p m e = pick (begins_with 111 p.text) (begins_with 98 p.text) (leb (length p.text) 6) e
-  where
-    is : (w : MapWord) → fine w ≡ fine m → map_kept w ≡ true → map_kept m ≡ true
-    is w h k = let s : w ≡ m = cc in subst (λ x. map_kept x ≡ true) s k
-
-    pick : (a b c : Bool) → cond a (fine One) (cond b (fine Block) (cond c (fine Cyclic) (◌>>=◌ (within 1 32 p) (λ k. fine (CyclicBy k))))) ≡ fine m → map_kept m ≡ true
-    pick true b c h = is One h refl
-    pick false true c h = is Block h refl
-    pick false false true h = is Cyclic h refl
-    pick false false false h =
-        let a = bind_inv (within 1 32 p) (λ k. fine (CyclicBy k)) m h in
-        is (CyclicBy a.0) a.2 (within_kept 1 32 p a.0 a.1)
+map_kept_lem p m e = grind (arith, common_steps)
 
 grid_kept_lem : (f : List Piece) (g : Grid) → grid_of f ≡ fine g → grid_kept g ≡ true
-grid_kept_lem f g e =
-    let a = bind_inv (within 1 8 (nth 0 f)) _ g e in
-    let b = bind_inv (within 1 8 (nth 1 f)) _ g a.2 in
-    let c = one_test (leb (a.0 * b.0) 8) _ _ _ _ g b.2 in
-    let s : record { rows = a.0; columns = b.0 } ≡ g = fine_same c.1 in
-    subst (λ x. grid_kept x ≡ true) s
-    (and_from _ _ (and_from _ _ (within_kept 1 8 (nth 0 f) a.0 a.1) (within_kept 1 8 (nth 1 f) b.0 b.1)) c.0)
+grid_kept_lem f g e = grind (arith, common_steps)
 
 array_kept_lem : (f : List Piece) (x : Array) → array_of f ≡ fine x → array_kept x ≡ true
 array_kept_lem f x e =
@@ -104,9 +75,7 @@ array_kept_lem f x e =
     (and_from _ _ (and_from _ _ (and_from _ _ (within_kept 1 32 (nth 0 f) a.0 a.1) (within_kept 1 32 (nth 1 f) b.0 b.1)) (map_kept_lem (nth 2 f) c.0 c.1)) (map_kept_lem (nth 3 f) d.0 d.1))
 
 range_kept_lem : (p : Piece) (low high : ℕ) (r : Range) → between 1 32 low ≡ true → between 1 32 high ≡ true → range_from p low high ≡ fine r → range_kept r ≡ true
-range_kept_lem p low high r l h e =
-    let a = one_test (leb low high) _ _ _ _ r e in
-    subst (λ x. range_kept x ≡ true) (fine_same a.1) (and_from _ _ (and_from _ _ (and_parts (leb 1 low) (leb low 32) l).0 a.0) (upper 1 32 high h))
+range_kept_lem p low high r l h e = grind (arith, common_steps)
 
 head_kept : (f : List Piece) (h : Head) → head_of f ≡ fine h → (range_kept h.i ≡ true) × (range_kept h.j ≡ true)
 head_kept f h e =
@@ -114,31 +83,19 @@ head_kept f h e =
     let b = bind_inv (within 1 32 (nth 2 f)) _ h a.2 in
     let c = bind_inv (within 1 32 (nth 3 f)) _ h b.2 in
     let d = bind_inv (within 1 32 (nth 4 f)) _ h c.2 in
-    let i = bind_inv (range_from (nth 1 f) a.0 b.0) _ h d.2 in
-    let j = bind_inv (range_from (nth 3 f) c.0 d.0) _ h i.2 in
-    subst (λ x. (range_kept x.i ≡ true) × (range_kept x.j ≡ true)) (fine_same j.2) (
-      range_kept_lem (nth 1 f) a.0 b.0 i.0 (within_kept 1 32 (nth 1 f) a.0 a.1) (within_kept 1 32 (nth 2 f) b.0 b.1) i.1,
-      range_kept_lem (nth 3 f) c.0 d.0 j.0 (within_kept 1 32 (nth 3 f) c.0 c.1) (within_kept 1 32 (nth 4 f) d.0 d.1) j.1,
-    )
+    let ak = within_kept 1 32 (nth 1 f) a.0 a.1 in
+    let bk = within_kept 1 32 (nth 2 f) b.0 b.1 in
+    let ck = within_kept 1 32 (nth 3 f) c.0 c.1 in
+    let dk = within_kept 1 32 (nth 4 f) d.0 d.1 in
+    let z = d.2 in
+    (grind (arith, common_steps, ak, bk, z), grind (arith, common_steps, ck, dk, z))
 
 subscript_kept_lem : (least : ℕ) (v : Variable) (p q : Piece) (s : Subscript) → subscript_of least v p q ≡ fine s → (subscript_kept least s ≡ true) × (s.variable ≡ v)
-subscript_kept_lem least v p q s e =
-    let a = bind_inv (within least 4 p) _ s e in
-    let m = bind_inv (offset_of q) _ s a.2 in
-    subst (λ x. (subscript_kept least x ≡ true) × (x.variable ≡ v)) (fine_same m.2) (and_from _ _ (within_kept least 4 p a.0 a.1) (offset_kept q m.0 m.1), refl)
+subscript_kept_lem least v p q s e = grind (arith, common_steps)
 
 module _ (arrays : List Array) (i j : Range) where
   access_kept_lem : (least : ℕ) (p : Piece) (t : ℕ) (q : Piece) (row : Subscript) (r : Piece) (column : Subscript) (x : Access) → leb 1 t ≡ true → subscript_kept least row ≡ true → subscript_kept least column ≡ true → access_of arrays i j p t q row r column ≡ fine x → (access_kept least arrays i j x ≡ true) × (x.row ≡ row) × (x.column ≡ column)
-  access_kept_lem least p t q row r column x one rk ck e =
-      let a = one_test (leb t (length arrays)) _ _ _ _ x e in
-      let b = one_test (inside i j (get_or arrays (t - 1) nowhere).rows row) _ _ _ _ x a.1 in
-      let c = one_test (inside i j (get_or arrays (t - 1) nowhere).columns column) _ _ _ _ x b.1 in
-      let there : ltb (t - 1) (length arrays) ≡ true = lt-ltb (t - 1) (length arrays) (omega (arith, leb-true t (length arrays) a.0, leb-true 1 t one)) in
-      let s = fine_same c.1 in (
-        subst (λ y. access_kept least arrays i j y ≡ true) s (and_from _ _ (and_from _ _ (and_from _ _ (and_from _ _ there rk) ck) b.0) c.0),
-        sym (ap (λ y. y.row) s),
-        sym (ap (λ y. y.column) s),
-      )
+  access_kept_lem least p t q row r column x one rk ck e = (grind (arith, common_steps), grind (arith, common_steps), grind (arith, common_steps))
 
 put_kept : (arrays : List Array) (h : Head) (f : List Piece) (x : Access) → put_of arrays h f ≡ fine x → (access_kept 1 arrays h.i h.j x ≡ true) × (is_i x.row.variable ≡ true) × (not (is_i x.column.variable) ≡ true)
 put_kept arrays h f x e =

@@ -1,5 +1,5 @@
 -- What an exact answer on a sheet means for its bytes and for its nest. Assumes nothing.
-use Rattle.std.proofs.Common.{◌≡◌, ℕ, false, List, IfOk, IfErr, Ok, Err, Result, sym, refl, arith}
+use Rattle.std.proofs.Common.{◌≡◌, ℕ, false, List, IfOk, IfErr, Ok, Err, Result, sym, refl}
 use Rattle.tokens.specs.Texts.{Read, got, refused as stopped}
 use Rattle.nest.specs.declared.fault.SheetFault.{SheetFault}
 use Rattle.sheet.specs.Verdicts.{fine}
@@ -15,7 +15,7 @@ use Rattle.sheet.proofs.SheetLaw.{refusal_law, accepted_law}
 
 accepted_inside : (bytes : List ℕ) (sheet : Sheet) (o : Read Sheet) → lines_of (start bytes) ≡ o → verdict o ≡ fine sheet → StaysInside sheet
 accepted_inside bytes sheet (got s u) is e = let same : lines_of (start bytes) ≡ got sheet u = cc in kept_inside sheet (sheet_kept (start bytes) sheet u same)
-accepted_inside bytes sheet (stopped number l b) is e = let z : ◌≡◌ {A = ℕ} 0 1 = cc in absurd (omega arith)
+accepted_inside bytes sheet (stopped number l b) is e = absurd (cc)
 
 module _ {V : Type 0} (view : V → Sheet) (bytes : List ℕ) where
   abbrev Answers : Result V SheetFault → Type 0

@@ -1,18 +1,15 @@
 -- What the fields of a line are refused for, and where: a number from 2 to 6, at one of the fields. Assumes nothing.
-use Rattle.std.proofs.Common.{◌≡◌, ℕ, ◌-◌, ◌*◌, ◌<◌, ◌≤◌, Bool, cond, leb, List, length, get_or, arith}
+use Rattle.std.proofs.Common.{◌≡◌, ℕ, ◌<◌, ◌≤◌, List, length, arith}
 use Rattle.std.specs.List.{AllByRecursion}
 use Rattle.std.proofs.ByRecursion.{All-get_or}
-use Rattle.std.proofs.lemmas.Bool.{cond_both}
+use Rattle.std.proofs.lemmas.Grind.{common_steps}
 use Rattle.tokens.specs.Texts.{Piece}
-use Rattle.tokens.specs.Values.{magnitude, begins_with}
 use Rattle.nest.specs.declared.terms.Array.{Array}
-use Rattle.nest.specs.declared.terms.Access.{Access}
 use Rattle.nest.specs.declared.terms.Range.{Range}
 use Rattle.nest.specs.declared.terms.Variable.{Variable}
 use Rattle.nest.specs.declared.terms.Variable.TheVariants.{I, J}
 use Rattle.nest.specs.declared.terms.Subscript.{Subscript}
-use Rattle.sheet.specs.Verdicts.{Verdict, fine, wrong, ◌>>=◌, wrong_at, nth, within, offset_of, map_of, variable_of, subscript_of, access_of, grid_of, array_of, range_from, Head, head_of, put_of, read_of, count_of}
-use Rattle.nest.specs.Terms.{inside, nowhere}
+use Rattle.sheet.specs.Verdicts.{Verdict, fine, wrong, ◌>>=◌, nth, within, offset_of, map_of, variable_of, subscript_of, access_of, grid_of, array_of, range_from, Head, head_of, put_of, read_of, count_of}
 
 -- a value, or a refusal with a number from 2 to 6 at such a place
 abbrev pub Faulted : {V : Type 0} → (ℕ → ℕ → Type 0) → Verdict V → Type 0
@@ -32,39 +29,24 @@ module _ (At : ℕ → ℕ → Type 0) where
   bound (fine v) f h k = k v
   bound (wrong number line byte) f h k = h
 
-  -- a test, and a refusal where it fails
-  tested : {V : Type 0} (b : Bool) (x : Verdict V) (number : ℕ) (p : Piece) → 2 ≤ number → number ≤ 6 → At p.line p.byte → Faulted At x → Faulted At (cond b x (wrong_at number p))
-  tested b x number p low high h k = cond_both b x (wrong_at number p) (Faulted At) (λ _. k) (λ _. (low, high, h))
-
   within_faulted : (low high : ℕ) (p : Piece) → At p.line p.byte → Faulted At (within low high p)
-  within_faulted low high p h =
-      let m = magnitude p.text in
-      tested (leb low m) (cond (leb m high) (fine m) (wrong_at 2 p)) 2 p (omega arith) (omega arith) h
-      (tested (leb m high) (fine m) 2 p (omega arith) (omega arith) h tt)
+  within_faulted low high p h = grind (arith, common_steps, h)
 
   offset_faulted : (p : Piece) → At p.line p.byte → Faulted At (offset_of p)
   offset_faulted p h = bound (within 0 64 p) _ (within_faulted 0 64 p h) (λ n. tt)
 
   map_faulted : (p : Piece) → At p.line p.byte → Faulted At (map_of p)
-  map_faulted p h =
-      cond_both (begins_with 111 p.text) _ _ (Faulted At) (λ _. tt)
-      (λ _. cond_both (begins_with 98 p.text) _ _ (Faulted At) (λ _. tt)
-      (λ _. cond_both (leb (length p.text) 6) _ _ (Faulted At) (λ _. tt) (λ _. bound (within 1 32 p) _ (within_faulted 1 32 p h) (λ k. tt))))
+  map_faulted p h = grind (arith, common_steps, h)
 
   subscript_faulted : (least : ℕ) (v : Variable) (p q : Piece) → At p.line p.byte → At q.line q.byte → Faulted At (subscript_of least v p q)
   subscript_faulted least v p q hp hq = bound (within least 4 p) _ (within_faulted least 4 p hp) (λ a. bound (offset_of q) _ (offset_faulted q hq) (λ m. tt))
 
   access_faulted : (arrays : List Array) (i j : Range) (p : Piece) (t : ℕ) (q : Piece) (row : Subscript) (r : Piece) (column : Subscript)
       → At p.line p.byte → At q.line q.byte → At r.line r.byte → Faulted At (access_of arrays i j p t q row r column)
-  access_faulted arrays i j p t q row r column hp hq hr =
-      let element : Access = record { array = t - 1; row = row; column = column } in
-      let rows = inside i j (get_or arrays (t - 1) nowhere).rows row in
-      let columns = inside i j (get_or arrays (t - 1) nowhere).columns column in
-      tested {V = Access} (leb t (length arrays)) (cond rows (cond columns (fine element) (wrong_at 6 r)) (wrong_at 6 q)) 4 p (omega arith) (omega arith) hp
-      (tested {V = Access} rows (cond columns (fine element) (wrong_at 6 r)) 6 q (omega arith) (omega arith) hq (tested {V = Access} columns (fine element) 6 r (omega arith) (omega arith) hr tt))
+  access_faulted arrays i j p t q row r column hp hq hr = grind (arith, common_steps, hp, hq, hr)
 
   range_faulted : (p : Piece) (low high : ℕ) → At p.line p.byte → Faulted At (range_from p low high)
-  range_faulted p low high h = tested (leb low high) (fine (record { low = low; high = high })) 5 p (omega arith) (omega arith) h tt
+  range_faulted p low high h = grind (arith, common_steps, h)
 
   module _ (n : ℕ) (f : List Piece) (h : Fielded At n f) where
     field_at : (k : ℕ) → k < n → At (nth k f).line (nth k f).byte
@@ -83,7 +65,7 @@ pub grid_rule : RuleLaw 2 grid_of
 grid_rule At f h =
     bound At (within 1 8 (nth 0 f)) _ (number_at At 2 f h 1 8 0 (omega arith)) (λ rows.
     bound At (within 1 8 (nth 1 f)) _ (number_at At 2 f h 1 8 1 (omega arith)) (λ columns.
-    tested At (leb (rows * columns) 8) (fine (record { rows = rows; columns = columns })) 3 (nth 0 f) (omega arith) (omega arith) (field_at At 2 f h 0 (omega arith)) tt))
+    let at = field_at At 2 f h 0 (omega arith) in grind (arith, common_steps, at)))
 
 pub array_rule : RuleLaw 4 array_of
 array_rule At f h =

@@ -33,7 +33,7 @@ sheet_law =
 
 -- the verdict of a reading
 not_wrong : {V : Type 0} (o : Read V) (number l b : ℕ) → verdict o ≡ wrong number l b → o ≡ refused number l b
-not_wrong (got v u) number l b e = let z : ◌≡◌ {A = ℕ} 0 1 = cc in absurd (omega arith)
+not_wrong (got v u) number l b e = absurd (cc)
 not_wrong (refused n line byte) number l b e = cc
 
 first_fault : (bytes : List ℕ) (number l b : ℕ) → StoppedLines Anything lines_of 1 bytes number l b → FirstFault bytes number l b
@@ -74,4 +74,4 @@ accepted_law bytes sheet e = go (lines_of (start bytes)) (sheet_law 1 bytes) e
   where
     go : (o : Read Sheet) → LastCut lines_of 1 bytes o → verdict o ≡ fine sheet → (n : ℕ) × WholeLines n bytes
     go (got v u) h k = (h.0, h.1)
-    go (refused number l b) h k = let z : ◌≡◌ {A = ℕ} 0 1 = cc in absurd (omega arith)
+    go (refused number l b) h k = absurd (cc)

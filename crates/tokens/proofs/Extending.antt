@@ -71,7 +71,7 @@ pub record Begins (Follows : List ℕ → Type 0) (f : List ℕ → Extent) (b :
   pub goes : Goes Follows f b
 
 empty_cons : (x : ℕ) (w : List ℕ) → [] ≡ x ∷ w → ⊥
-empty_cons x w e = let z : ◌≡◌ {A = ℕ} 0 1 = cc in omega arith
+empty_cons x w e = cc
 
 head_of : (x y : ℕ) (v w : List ℕ) → x ∷ v ≡ y ∷ w → x ≡ y
 head_of x y v w e = cc

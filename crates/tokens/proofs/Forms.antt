@@ -65,7 +65,7 @@ module _ (lead : ℕ) (t : Text) where
       }
 
   end_cut : (s : List ℕ) → LineCut (fields_behind lead []) (onwards t s) (fields_behind lead [] (onwards t s))
-  end_cut [] = end_stops [] (λ x w e. let z : ◌≡◌ {A = ℕ} 0 1 = cc in absurd (omega arith))
+  end_cut [] = end_stops [] (λ x w e. absurd (cc))
   end_cut (x ∷ s) =
       elim (cases_Bool (eqb 10 x)) [
         | inl h ↦ subst (LineCut (fields_behind lead []) (onwards t (x ∷ s))) (sym (end_there x s h)) (record {

@@ -12,7 +12,7 @@ unbroken_append (b ∷ u) v h k = (h.0, unbroken_append u v h.1 k)
 
 -- a refusal is no value
 pub not_got : {V : Type 0} (number line byte : ℕ) (v : V) (u : Text) → refused number line byte ≡ got v u → ⊥
-not_got number line byte v u e = let z : ◌≡◌ {A = ℕ} 0 1 = cc in omega arith
+not_got number line byte v u e = cc
 
 -- what gets a value in two steps gets one in the first
 pub first_got : {V W : Type 0} (o : Read V) (f : V → Text → Read W) (w : W) (u : Text) → then o f ≡ got w u → (v : V) × (l : Text) × (o ≡ got v l)
