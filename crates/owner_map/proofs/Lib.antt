@@ -1,4 +1,3 @@
 pub mod RowSteps
-pub mod Answering
 pub mod LawAnswers
 pub mod MakeDeals

@@ -30,9 +30,6 @@ module _ (p n : ℕ) (some-boards : 1 ≤ p) where
   some_block : 1 ≤ n → 1 ≤ block_width p n
   some_block h = le-div 1 (n + (p - 1)) p some-boards (omega arith)
 
-  small_block : block_width p n ≤ n
-  small_block = least.1 n (omega (arith, mul-le n 1 n p (omega arith) some-boards, mul-one n))
-
   -- Under block no position is left over for a second round.
   block_owner : (x : ℕ) → 1 ≤ x → x ≤ n → (x - 1) / block_width p n < p
   block_owner x low high =
@@ -54,10 +51,6 @@ single_is_one n Block =
     same_deal 1 n _ _ (λ x low high. omega (arith, block_owner 1 n (omega arith) x low high))
 single_is_one n Cyclic = same_deal 1 n _ _ (λ x low high. mod-one (x - 1))
 single_is_one n (CyclicBy k) = same_deal 1 n _ _ (λ x low high. mod-one ((x - 1) / k))
-
--- The width of a block is one of 1 to 32.
-pub block_fits : (p n : ℕ) → Sizes p n → (1 ≤ block_width p n) × (block_width p n ≤ 32)
-block_fits p n sizes = (some_block p n sizes.0 sizes.2, omega (arith, small_block p n sizes.0))
 
 pub makes_agree : (p n : ℕ) → 1 ≤ p → MakesAgree p n
 makes_agree p n some-boards = record {
