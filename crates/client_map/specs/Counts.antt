@@ -3,8 +3,9 @@ use Rattle.std.specs.Prelude.{◌≡◌, ℕ, suc, ◌+◌, ◌-◌, ◌*◌, �
 use Rattle.std.proofs.Common.{sym, ap, ◌∙◌, ⊎_elim, mod-lt, div-add-mod', suc-mul, arith}
 use Rattle.std.proofs.Math.Nat.{div-eq_of_lt}
 use Rattle.std.proofs.Math.Arith.{digits_div}
-use Rattle.std.proofs.lemmas.Bool.{cases_lt, le-ltb, lt-ltb, le-leb, lt-leb}
+use Rattle.std.proofs.lemmas.Bool.{cases_lt, le-ltb, lt-ltb}
 use Rattle.std.proofs.lemmas.Bool.Decides.{nat_tests}
+use Rattle.owner_map.specs.ClosedForms.{div_next, div_last}
 use Rattle.client_map.specs.Rule.{front_owner}
 
 -- The part of the front that board b owns.
@@ -44,26 +45,17 @@ module _ (p b : ℕ) (board : b < p) where
   turns_split j = ap (turns p b) (sym (div-add-mod' j p)) ∙ turns_at (j / p) (j % p) (mod-lt j (omega arith))
 
   pub turns_next : (j : ℕ) → turns p b (j + 1) ≡ turns p b j + cond (j % p == b) 1 0
-  turns_next j = ⊎_elim inside ends (cases_lt (j % p + 1) p)
-    where
-      inside : j % p + 1 < p → turns p b (j + 1) ≡ turns p b j + cond (j % p == b) 1 0
-      inside l =
-          let e : j / p * p + (j % p + 1) ≡ j + 1 = omega (arith, div-add-mod' j p) in
-          let later = ap (turns p b) (sym e) ∙ turns_at (j / p) (j % p + 1) l in
-          let now = turns_split j in
-          grind (arith, nat_tests)
-
-      ends : p ≤ j % p + 1 → turns p b (j + 1) ≡ turns p b j + cond (j % p == b) 1 0
-      ends l =
-          let rest : j % p < p = mod-lt j (omega arith) in
-          let e : suc (j / p) * p + 0 ≡ j + 1 = omega (arith, div-add-mod' j p, suc-mul (j / p) p) in
-          let later = ap (turns p b) (sym e) ∙ turns_at (suc (j / p)) 0 (omega arith) in
-          let now = turns_split j in
-          grind (arith, nat_tests)
+  turns_next j =
+      let now = turns_split j in
+      let later = turns_split (j + 1) in
+      let rest : j % p < p = mod-lt j (omega arith) in
+      let inside = div_next p j in
+      let ends = div_last p j (omega arith) in
+      grind (arith, nat_tests)
 
   -- A board waits for its own turn.
   pub turns_own : (q : ℕ) → turns p b (q * p + b) ≡ q
-  turns_own q = let u = le-ltb b b (omega arith) in turns_at q b board ∙ rw u (omega arith)
+  turns_own q = let own = turns_at q b board in grind (arith, nat_tests)
 
   turns_none : turns p b 0 ≡ 0
   turns_none = let short : 0 + (p - 1 - b) < p = omega arith in div-eq_of_lt short
@@ -72,22 +64,13 @@ module _ (p b : ℕ) (board : b < p) where
   held_start f = let e : 0 - f ≡ 0 = omega arith in rw (e, turns_none) (omega arith)
 
   pub held_next : (f m : ℕ) → held p f b (m + 1) ≡ held p f b m + cond (front_owner p f (m + 1) == b) 1 0
-  held_next f m = ⊎_elim front behind (cases_lt m f)
-    where
-      front : m < f → held p f b (m + 1) ≡ held p f b m + cond (front_owner p f (m + 1) == b) 1 0
-      front l =
-          let u = le-leb (m + 1) f (omega arith) in
-          let a : m + 1 - f ≡ 0 = omega arith in
-          let z : m - f ≡ 0 = omega arith in
-          rw (u, a, z) (grind (arith, nat_tests))
-
-      behind : f ≤ m → held p f b (m + 1) ≡ held p f b m + cond (front_owner p f (m + 1) == b) 1 0
-      behind l =
-          let u = lt-leb (m + 1) f (omega arith) in
-          let a : m + 1 - f ≡ m - f + 1 = omega arith in
-          let z : m + 1 - 1 - f ≡ m - f = omega arith in
-          let t = turns_next (m - f) in
-          rw (u, a, z) (grind (arith, nat_tests))
+  held_next f m =
+      let behind = turns_next (m - f) in
+      let none = turns_none in
+      let later : f ≤ m → m + 1 - f ≡ m - f + 1 = omega arith in
+      let front : m < f → m + 1 - f ≡ 0 = omega arith in
+      let start : m + 1 - 1 - f ≡ m - f = omega arith in
+      rw start (grind (arith, nat_tests))
 
   -- Within its front a board owns everything.
   pub held_front : (f m : ℕ) → m < front_part f b → held p f b m ≡ m

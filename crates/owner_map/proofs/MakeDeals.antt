@@ -1,12 +1,12 @@
 -- The makes are deals in runs.
-use Rattle.std.proofs.Common.{◌≡◌, ℕ, zero, suc, ◌+◌, ◌-◌, ◌/◌, ◌%◌, ◌<◌, ◌≤◌, List, ◌∷◌, map, sym, refl, ap, ◌∙◌, subst, ap₂, mod-lt, mod-eq_of_lt, suc-mul, mul_comm, div-add-mod', mul-one, div-one, arith}
+use Rattle.std.proofs.Common.{◌≡◌, ℕ, zero, suc, ◌+◌, ◌-◌, ◌/◌, ◌%◌, ◌<◌, ◌≤◌, List, ◌∷◌, map, sym, refl, ap, ◌∙◌, subst, ap₂, mod-lt, mod-eq_of_lt, suc-mul, mul_comm, div-add-mod', div-one, arith}
 use native.Mathlib.Nat.{div-eq_of_lt, zero-mod, mod-one}
 use Rattle.std.specs.List.{range_with_len}
-use Rattle.std.proofs.lemmas.Nat.{div_below, le-div, mul-le}
+use Rattle.std.proofs.lemmas.Nat.{div_below, le-div}
 use Rattle.owner_map.specs.declared.makes.Make.{Make}
 use Rattle.owner_map.specs.declared.makes.Make.TheVariants.{One, Block, Cyclic, CyclicBy}
 use Rattle.owner_map.specs.Meaning.{Deal}
-use Rattle.owner_map.specs.Rules.{dealt, deal_of, block_width, LeastWidth, Sizes, Makeable, width_of}
+use Rattle.owner_map.specs.Rules.{dealt, deal_of, block_width, LeastWidth, Makeable, width_of}
 use Rattle.owner_map.specs.MakeLaws.{MakesAgree}
 
 same_rule : (f g : ℕ → ℕ) (a n : ℕ) → ((x : ℕ) → a ≤ x → x < a + n → f x ≡ g x) → map f (range_with_len a n) ≡ map g (range_with_len a n)

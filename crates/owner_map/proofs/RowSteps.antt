@@ -3,11 +3,10 @@ use Rattle.std.proofs.Common.{◌≡◌, ℕ, zero, suc, ◌+◌, ◌-◌, ◌<�
 use Rattle.std.specs.List.{range_with_len, zip, slice_get, filter}
 use Rattle.std.specs.Option.{option_map}
 use Rattle.std.proofs.lemmas.List.{take-take, get_or-take}
-use Rattle.std.proofs.lemmas.List.Recursion.{is_count_by}
 use Rattle.std.proofs.lemmas.Bool.Decides.{nat_tests}
 use Rattle.owner_map.specs.Meaning.{Sound, owner, place, below, tally, seek}
 use Rattle.owner_map.specs.Listed.{listed}
-use Rattle.owner_map.specs.Tallies.{tally_more}
+use Rattle.owner_map.specs.Tallies.{tally_counts, tally_more}
 
 module _ (b : ℕ) (row : List ℕ) (i : ℕ) (within : i < length row) where
   pub tally_hit : get_or row i 0 ≡ b → tally b (take (i + 1) row) ≡ tally b (take i row) + 1
@@ -15,10 +14,6 @@ module _ (b : ℕ) (row : List ℕ) (i : ℕ) (within : i < length row) where
 
   pub tally_miss : (get_or row i 0 ≡ b → ⊥) → tally b (take (i + 1) row) ≡ tally b (take i row)
   tally_miss e = let t = tally_more b row i within in grind (arith, nat_tests)
-
--- A tally is a count.
-pub tally_counts : (b : ℕ) (row : List ℕ) → tally b row ≡ count_by (λ o. o == b) row
-tally_counts b row = is_count_by (tally b) (λ o. o == b) refl (λ o rest. grind (arith, nat_tests)) row
 
 -- The position of board b at rank r is the r-th of those that the row names b for.
 pub seek_nth : (b r x n : ℕ) (row : List ℕ) → option_map (λ (q : ℕ × ℕ). q.0) (slice_get (filter (λ (q : ℕ × ℕ). q.1 == b) (zip (range_with_len x n) row)) r) ≡ seek x b r (take n row)

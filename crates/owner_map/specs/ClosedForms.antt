@@ -4,7 +4,8 @@ use Rattle.std.proofs.Common.{sym, ap, ◌∙◌, ⊎_elim, mod-lt, mod-eq_of_lt
 use Rattle.std.proofs.Math.Nat.{div-eq_of_lt}
 use Rattle.std.proofs.Math.Arith.{digits_div, digits_mod, mod-mul}
 use Rattle.std.proofs.lemmas.Nat.{mul-le}
-use Rattle.std.proofs.lemmas.Bool.{cases_order, cases_lt, eq-eqb, ne_eqb}
+use Rattle.std.proofs.lemmas.Bool.{cases_lt}
+use Rattle.std.proofs.lemmas.Bool.Decides.{nat_tests}
 
 -- How many of the first m positions board b owns: k of each whole round, and its part of the round begun.
 abbrev pub held : ℕ → ℕ → ℕ → ℕ → ℕ
@@ -20,49 +21,26 @@ run_after a b k h = let l = mul-le (suc a) k b k h (omega arith) in omega (arith
 
 -- One position more in the round begun, at offset j of the run of board o: it is board b's if b is o.
 part_next : (k o b j : ℕ) → j < k → min k (o * k + j + 1 - b * k) ≡ min k (o * k + j - b * k) + cond (o == b) 1 0
-part_next k o b j h = ⊎_elim same (⊎_elim earlier later) (cases_order o b)
-  where
-    Goal : Type 0
-    Goal = min k (o * k + j + 1 - b * k) ≡ min k (o * k + j - b * k) + cond (o == b) 1 0
-
-    same : o ≡ b → Goal
-    same e = let t = ap (λ c. c * k) e in let u = eq-eqb o b e in rw u (omega arith)
-
-    earlier : o < b → Goal
-    earlier l = let t = run_after o b k l in let u = ne_eqb o b (omega arith) in rw u (omega arith)
-
-    later : b < o → Goal
-    later l = let t = run_after b o k l in let u = ne_eqb o b (omega arith) in rw u (omega arith)
+part_next k o b j h =
+    let earlier = run_after o b k in
+    let later = run_after b o k in
+    grind (arith, nat_tests)
 
 -- The last position of a round: with it board b has its whole run of that round.
 part_last : (k p o b j : ℕ) → j < k → b < p → o < p → o * k + j + 1 ≡ p * k → k ≡ min k (o * k + j - b * k) + cond (o == b) 1 0
-part_last k p o b j h hb ho e = ⊎_elim same (⊎_elim earlier later) (cases_order o b)
-  where
-    Goal : Type 0
-    Goal = k ≡ min k (o * k + j - b * k) + cond (o == b) 1 0
-
-    inside_o : o * k + k ≤ p * k
-    inside_o = run_after o p k ho
-
-    inside_b : b * k + k ≤ p * k
-    inside_b = run_after b p k hb
-
-    same : o ≡ b → Goal
-    same q = let t = ap (λ c. c * k) q in let u = eq-eqb o b q in rw u (omega (arith, inside_o))
-
-    earlier : o < b → Goal
-    earlier l = absurd (omega (arith, run_after o b k l, inside_b, inside_o))
-
-    later : b < o → Goal
-    later l = let t = run_after b o k l in let u = ne_eqb o b (omega arith) in rw u (omega (arith, inside_o))
+part_last k p o b j h hb ho e =
+    let earlier = run_after o b k in
+    let later = run_after b o k in
+    let inside = run_after b p k hb in
+    grind (arith, nat_tests)
 
 -- One position more, inside a round and at its end.
-div_next : (w m : ℕ) → m % w + 1 < w → ((m + 1) / w ≡ m / w) × ((m + 1) % w ≡ m % w + 1)
+pub div_next : (w m : ℕ) → m % w + 1 < w → ((m + 1) / w ≡ m / w) × ((m + 1) % w ≡ m % w + 1)
 div_next w m h =
     let e : m / w * w + (m % w + 1) ≡ m + 1 = omega (arith, div-add-mod' m w) in
     (ap (λ n. n / w) (sym e) ∙ digits_div (m / w) h, ap (λ n. n % w) (sym e) ∙ digits_mod (m / w) h)
 
-div_last : (w m : ℕ) → 0 < w → m % w + 1 ≡ w → ((m + 1) / w ≡ suc (m / w)) × ((m + 1) % w ≡ 0)
+pub div_last : (w m : ℕ) → 0 < w → m % w + 1 ≡ w → ((m + 1) / w ≡ suc (m / w)) × ((m + 1) % w ≡ 0)
 div_last w m h l =
     let e : suc (m / w) * w + 0 ≡ m + 1 = omega (arith, div-add-mod' m w, suc-mul (m / w) w) in
     (ap (λ n. n / w) (sym e) ∙ digits_div (suc (m / w)) h, ap (λ n. n % w) (sym e) ∙ digits_mod (suc (m / w)) h)

@@ -1,7 +1,6 @@
 -- The laws of every deal, from those of rows of owners.
 use Rattle.std.specs.Prelude.{◌≡◌, ℕ, suc, ◌+◌, ◌-◌, ◌<◌, ◌≤◌, List, length, take, Some, None, Option, slice_index, slice_index_or, refl}
-use Rattle.std.proofs.Common.{sym, ap, ap₂, ◌∙◌, ⊎_elim, arith}
-use Rattle.std.proofs.lemmas.Bool.{cases_lt}
+use Rattle.std.proofs.Common.{sym, ap, ap₂, ◌∙◌, arith}
 use Rattle.std.proofs.lemmas.List.{take_all, length-take, length-take-le, get_or-take}
 use Rattle.owner_map.specs.Meaning.{Deal, Sound, Position, extent, owner, rank, place, position, below, share, tally, sum_over}
 use Rattle.owner_map.specs.Laws.{PlaceUndone, PositionUndone, RanksWithoutGap, CountsAddUp, PlaceDetermines, CountsGrow, PositionsRise}
@@ -35,22 +34,14 @@ ranks_without_gap d b r = (some_below_share d b r, none_past_share d b r)
 
 -- A rank at which the board has a position is below its share, and one at which it has none is not.
 pub rank_reached : (d : Deal) (b r x : ℕ) → position d b r ≡ Some x → r < share d b
-rank_reached d b r x e = ⊎_elim (λ l. l) (λ l. absurd (missed l)) (cases_lt r (share d b))
-  where
-    missed : share d b ≤ r → ⊥
-    missed l =
-        let n = none_past_share d b r l in
-        let z : ◌≡◌ {A = ℕ} 0 1 = cc in
-        omega arith
+rank_reached d b r x e =
+    let none = none_past_share d b r in
+    grind arith
 
 pub rank_missed : (d : Deal) (b r : ℕ) → position d b r ≡ None → share d b ≤ r
-rank_missed d b r e = ⊎_elim (λ l. absurd (reached l)) (λ l. l) (cases_lt r (share d b))
-  where
-    reached : r < share d b → ⊥
-    reached l =
-        let s = (some_below_share d b r l).1 in
-        let z : ◌≡◌ {A = ℕ} 0 1 = cc in
-        omega arith
+rank_missed d b r e =
+    let some = some_below_share d b r in
+    grind arith
 
 pub position_undone : (d : Deal) → PositionUndone d
 position_undone d b r x e = reached (rank_reached d b r x e)
@@ -98,7 +89,8 @@ pub positions_rise : (d : Deal) → PositionsRise d
 positions_rise d b r s x y h ex ey =
     let cx = counted_at d b r x ex in
     let cy = counted_at d b s y ey in
-    ⊎_elim (λ l. l) (λ l. absurd (omega (arith, counts_grow d b y x l))) (cases_lt x y)
+    let grow = counts_grow d b y x in
+    grind arith
 
 -- A position of board b with r of its positions below is the board's position at rank r.
 pub found_by : (d : Deal) (b r x : ℕ) → Position d x → owner d x ≡ b → below d b x ≡ r → position d b r ≡ Some x

@@ -1,57 +1,39 @@
 -- Rows of owners: how often a board stands in one, and where it stands for the r-th time.
-use Rattle.std.specs.Prelude.{◌≡◌, ℕ, zero, suc, ◌+◌, ◌<◌, ◌≤◌, Bool, true, false, cond, List, [], ◌∷◌, ◌++◌, length, take, Some, None, Option, ◌==◌, nat_lt, slice_index, refl}
-use Rattle.std.proofs.Common.{ap, ◌∙◌, arith}
-use Rattle.std.proofs.lemmas.Bool.{eq-eqb, cond-true, cond-false, eqb-true}
+use Rattle.std.specs.Prelude.{◌≡◌, ℕ, zero, suc, ◌+◌, ◌<◌, ◌≤◌, Bool, true, false, cond, List, [], ◌∷◌, length, take, Some, None, ◌==◌, nat_lt, slice_index, count_by, refl}
+use Rattle.std.proofs.Common.{arith}
+use Rattle.std.proofs.lemmas.Bool.{cond-true, cond-false, eqb-true}
 use Rattle.std.proofs.lemmas.Bool.Decides.{nat_tests}
-use Rattle.std.proofs.lemmas.List.{take_more}
+use Rattle.std.proofs.lemmas.List.{take-take}
+use Rattle.std.proofs.lemmas.List.Recursion.{is_count_by}
+use Rattle.std.proofs.lemmas.List.Sums.{sum_by_more, sum_by-take-le, count_by-le-length}
 use Rattle.owner_map.specs.Meaning.{tally, seek, sum_over}
 
--- One owner more at the end of a row.
-pub tally_push : (b : ℕ) (row : List ℕ) (o : ℕ) → tally b (row ++ o ∷ []) ≡ tally b row + cond (o == b) 1 0
-tally_push b [] o = grind (arith, nat_tests)
-tally_push b (p ∷ row) o = let ih = tally_push b row o in grind (arith, nat_tests)
+-- A tally is a count.
+pub tally_counts : (b : ℕ) (row : List ℕ) → tally b row ≡ count_by (λ o. o == b) row
+tally_counts b row = is_count_by (tally b) (λ o. o == b) refl (λ o rest. grind (arith, nat_tests)) row
 
 -- One position more of a row.
 pub tally_more : (b : ℕ) (row : List ℕ) (i : ℕ) → i < length row → tally b (take (i + 1) row) ≡ tally b (take i row) + cond (slice_index row i == b) 1 0
-tally_more b row i h = ap (tally b) (take_more row i 0 h) ∙ tally_push b (take i row) (slice_index row i)
+tally_more b row i h =
+    rw (tally_counts b (take (i + 1) row), tally_counts b (take i row)) (sum_by_more (λ o. cond (o == b) 1 0) row i 0 h)
 
 -- No board stands more often in a row than the row is long.
 pub tally_le : (b : ℕ) (row : List ℕ) → tally b row ≤ length row
-tally_le b [] = omega arith
-tally_le b (o ∷ row) = let ih = tally_le b row in grind (arith, nat_tests)
+tally_le b row = rw (tally_counts b row) (count_by-le-length (λ o. o == b) row)
 
 -- A longer front of a row has a board at least as often.
 pub tally_mono : (b : ℕ) (row : List ℕ) (i j : ℕ) → i ≤ j → tally b (take i row) ≤ tally b (take j row)
-tally_mono b row zero j h = omega arith
-tally_mono b [] (suc i) zero h = omega arith
-tally_mono b [] (suc i) (suc j) h = omega arith
-tally_mono b (o ∷ row) (suc i) zero h = omega arith
-tally_mono b (o ∷ row) (suc i) (suc j) h =
-    let l : i ≤ j = omega arith in
-    let ih = tally_mono b row i j l in
-    grind (arith, nat_tests)
-
-seek_past : (x b r o : ℕ) (row : List ℕ) → (o == b) ≡ false → seek x b r (o ∷ row) ≡ seek (suc x) b r row
-seek_past x b zero o row e = cond-false (o == b) _ _ e
-seek_past x b (suc r) o row e = cond-false (o == b) _ _ e
+tally_mono b row i j h =
+    let part = sum_by-take-le (λ o. cond (o == b) 1 0) (take j row) i in
+    rw (tally_counts b (take i row), tally_counts b (take j row)) (rw (take-take i j row h) at part)
 
 -- The search for a position's own owner and rank ends at that position.
 pub seek_finds : (x : ℕ) (row : List ℕ) (i b : ℕ) → i < length row → slice_index row i ≡ b → seek x b (tally b (take i row)) row ≡ Some (x + i)
 seek_finds x [] i b h e = absurd (omega arith)
-seek_finds x (o ∷ row) zero b h e =
-    let z : x ≡ x + 0 = omega arith in
-    cond-true (o == b) (Some x) (seek (suc x) b zero row) (eq-eqb o b e) ∙ ap {B = Option ℕ} Some z
+seek_finds x (o ∷ row) zero b h e = grind (arith, nat_tests)
 seek_finds x (o ∷ row) (suc i) b h e =
     let ih = seek_finds (suc x) row i b (omega arith) e in
-    let s : suc x + i ≡ x + suc i = omega arith in
-    step (o == b) refl (ih ∙ ap {B = Option ℕ} Some s)
-  where
-    t : ℕ
-    t = tally b (take i row)
-
-    step : (hit : Bool) → (o == b) ≡ hit → seek (suc x) b t row ≡ Some (x + suc i) → seek x b (cond (o == b) (suc t) t) (o ∷ row) ≡ Some (x + suc i)
-    step true q f = rw (cond-true (o == b) (suc t) t q) (cond-true (o == b) (seek (suc x) b t row) (seek (suc x) b (suc t) row) q ∙ f)
-    step false q f = rw (cond-false (o == b) (suc t) t q) (seek_past x b t o row q ∙ f)
+    grind (arith, nat_tests)
 
 -- The search for a rank that the board does not reach finds none.
 pub seek_none : (x b r : ℕ) (row : List ℕ) → tally b row ≤ r → seek x b r row ≡ None

@@ -9,6 +9,7 @@ pub mod filling;
 pub mod lookup;
 
 /// A map that a client writes out: the owner of each position in turn.
+// Kept: the row has room for the longest dimension, so a table is copied, and making one needs no heap and cannot want memory.
 #[derive(Clone, Copy)]
 pub struct OwnerTable {
     numbers: Numbers,
