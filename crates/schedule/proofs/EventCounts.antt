@@ -11,7 +11,7 @@ use Rattle.sequential.specs.declared.iteration.Iteration.{Iteration}
 use Rattle.compiler.specs.Spans.{Seat, seat}
 use Rattle.compiler.specs.Orders.{orders_for, numbered}
 use Rattle.compiler.specs.Cells.{cells_of}
-use Rattle.compiler.specs.Deeds.{Deed, rests, ships, holds, adds_own, adds_taken, stores, works, working, deed_in, tasks_in, order_deeds, statement_deeds, sweep_deeds}
+use Rattle.compiler.specs.Deeds.{Deed, rests, works, working, deed_in, tasks_in, order_deeds, statement_deeds, sweep_deeds}
 use Rattle.compiler.specs.Totals.{boards_of, order_steps, statement_steps, board_steps, steps_of}
 use Rattle.compiler.specs.declared.order.Task.{Task}
 use Rattle.compiler.proofs.ListSums.{sums_like, sums_alike, sums_swap}
@@ -44,11 +44,7 @@ IdleFree f = f rests ≡ 0
 
 working_one : (f : Deed → ℕ) → IdleFree f → (d : Deed) → f d ≡ sum_by f (working (d ∷ []))
 working_one f none rests = none
-working_one f none (ships q e) = omega arith
-working_one f none (holds c e) = omega arith
-working_one f none (adds_own c r e) = omega arith
-working_one f none (adds_taken c q e) = omega arith
-working_one f none (stores e) = omega arith
+working_one f none d = omega arith
 
 pub working_sum : (f : Deed → ℕ) → IdleFree f → (deeds : List Deed) → sum_by f deeds ≡ sum_by f (working deeds)
 working_sum f none [] = refl

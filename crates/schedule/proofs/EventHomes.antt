@@ -40,9 +40,8 @@ all_each P (x ∷ xs) each = (each x (inl refl), all_each P xs (λ y m. each y (
 -- the reads that a task goes by are some of the statement's
 abbrev ReadsOf : Said → Task → Type 0
 ReadsOf s (Ship r) = In r s.reads
-ReadsOf s Base = Unit {0}
 ReadsOf s (Add r) = In r s.reads
-ReadsOf s Store = Unit {0}
+ReadsOf s _ = Unit {0}
 
 tasks_read : (s : Said) → AllByRecursion (ReadsOf s) (tasks_of s)
 tasks_read s =
@@ -95,9 +94,7 @@ module _ (n : Sheet) (deals : Deals) (kept : nest_kept n.grid n.arrays n.sweeps 
 
     doer_there : (t : Task) → ReadsOf s t → doer n.grid.rows deals s t e < boards_of n.grid
     doer_there (Ship r) mr = (owners_are_boards n deals kept fit sound s e m me).1 r mr
-    doer_there Base mr = (owners_are_boards n deals kept fit sound s e m me).0
-    doer_there (Add r) mr = (owners_are_boards n deals kept fit sound s e m me).0
-    doer_there Store mr = (owners_are_boards n deals kept fit sound s e m me).0
+    doer_there t mr = (owners_are_boards n deals kept fit sound s e m me).0
 
     event_home : (t : Task) → ReadsOf s t → AllByRecursion (Home n deals) (event_in n.grid.rows deals s t e)
     event_home t mr =

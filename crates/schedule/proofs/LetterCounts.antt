@@ -46,11 +46,7 @@ term_taken c x y r e =
 -- what an event counts for, by its step
 event_sum : (f : Deed → ℕ) → f rests ≡ 0 → (p : ℕ) (d : Deed) → sum_by (λ ev. f ev.1) (event_for p d) ≡ f d
 event_sum f none p rests = sym none
-event_sum f none p (ships q e) = omega arith
-event_sum f none p (holds c e) = omega arith
-event_sum f none p (adds_own c r e) = omega arith
-event_sum f none p (adds_taken c q e) = omega arith
-event_sum f none p (stores e) = omega arith
+event_sum f none p d = omega arith
 
 -- what the task of an iteration counts for
 abbrev counted : (Deed → ℕ) → ℕ → Deals → Said → Task → Iteration → ℕ

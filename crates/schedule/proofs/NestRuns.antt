@@ -12,7 +12,7 @@ use Rattle.sequential.specs.Laws.{In}
 use Rattle.sequential.specs.Run.{Setting, setting_of, Buffers, value_in, target_in, hold, hold_and_store, doing, in_mode, after_statement, after_sweep, after_sweeps, Hold, HoldAndStore}
 use Rattle.sequential.specs.declared.iteration.Iteration.{Iteration}
 use Rattle.sequential.proofs.Passing.{held_elements, held_length, stored_held, stored_length}
-use Rattle.compiler.specs.Deeds.{Deed, rests, ships, holds, adds_own, adds_taken, stores}
+use Rattle.compiler.specs.Deeds.{Deed, ships}
 use Rattle.compiler.specs.Laws.{AllSound}
 use Rattle.compiler.specs.Totals.{statement_depth, depth_of}
 use Rattle.schedule.specs.Memory.{Event, Memory, after_event, after_events, Can, AllCan, NoLetters}
@@ -28,12 +28,8 @@ depth_enough n deals s m =
 
 -- what can happen at a depth can happen at a greater one
 can_deeper : {V : Type 0} (d e : ℕ) (m : Memory V) (p : ℕ) (x : Deed) → d ≤ e → Can d m p x → Can e m p x
-can_deeper d e m p rests h c = tt
 can_deeper d e m p (ships q a) h c = omega arith
-can_deeper d e m p (holds n a) h c = tt
-can_deeper d e m p (adds_own n r a) h c = tt
-can_deeper d e m p (adds_taken n q a) h c = c
-can_deeper d e m p (stores a) h c = tt
+can_deeper d e m p x h c = c
 
 module _ {V : Type 0} (k : Setting V) where
   pub all_can_deeper : (d e : ℕ) (m : Memory V) (events : List Event) → d ≤ e → AllCan k d m events → AllCan k e m events

@@ -4,7 +4,7 @@ use Rattle.std.proofs.lemmas.Bool.{cases_eq}
 use Rattle.sections.specs.Order.{Element}
 use Rattle.sequential.specs.Run.{Setting}
 use Rattle.network.specs.Network.{State}
-use Rattle.compiler.specs.Deeds.{Deed, rests, ships, holds, adds_own, adds_taken, stores, working}
+use Rattle.compiler.specs.Deeds.{Deed, rests, working}
 use Rattle.schedule.specs.Boards.{Own}
 use Rattle.schedule.specs.Memory.{Memory, happens}
 use Rattle.schedule.specs.Start.{Tied}
@@ -15,31 +15,19 @@ use Rattle.schedule.proofs.StepEvents.{Came, runs_next}
 abbrev pub rested : List Deed → List Deed
 rested [] = []
 rested (rests ∷ xs) = rested xs
-rested (ships q e ∷ xs) = ships q e ∷ xs
-rested (holds c e ∷ xs) = holds c e ∷ xs
-rested (adds_own c r e ∷ xs) = adds_own c r e ∷ xs
-rested (adds_taken c q e ∷ xs) = adds_taken c q e ∷ xs
-rested (stores e ∷ xs) = stores e ∷ xs
+rested xs = xs
 
 -- where there is no work, nothing is left
 pub nothing_left : (xs : List Deed) → working xs ≡ [] → rested xs ≡ []
 nothing_left [] e = refl
 nothing_left (rests ∷ xs) e = nothing_left xs e
-nothing_left (ships q x ∷ xs) e = cc
-nothing_left (holds c x ∷ xs) e = cc
-nothing_left (adds_own c r x ∷ xs) e = cc
-nothing_left (adds_taken c q x ∷ xs) e = cc
-nothing_left (stores x ∷ xs) e = cc
+nothing_left (d ∷ xs) e = cc
 
 -- otherwise the first piece of work comes next
 pub work_next : (xs : List Deed) (d : Deed) (ds : List Deed) → working xs ≡ d ∷ ds → (rest : List Deed) × (rested xs ≡ d ∷ rest) × (working rest ≡ ds)
 work_next [] d ds e = absurd cc
 work_next (rests ∷ xs) d ds e = work_next xs d ds e
-work_next (ships q x ∷ xs) d ds e = (xs, cc, cc)
-work_next (holds c x ∷ xs) d ds e = (xs, cc, cc)
-work_next (adds_own c r x ∷ xs) d ds e = (xs, cc, cc)
-work_next (adds_taken c q x ∷ xs) d ds e = (xs, cc, cc)
-work_next (stores x ∷ xs) d ds e = (xs, cc, cc)
+work_next (x ∷ xs) d ds e = (xs, cc, cc)
 
 module _ {V : Type 0} (k : Setting V) (boards depth : ℕ) (There : Element → Type 0) (owner : Element → ℕ) where
   -- one board goes on after it went on
@@ -68,11 +56,7 @@ module _ {V : Type 0} (k : Setting V) (boards depth : ℕ) (There : Element → 
   rests_first (rests ∷ xs) s p m inside tied now =
       let first = runs_next k boards depth There owner s m p xs inside tied rests now tt tt in
       came_on s p xs (rested xs) m m first (rests_first xs first.to p m inside first.tied first.here)
-  rests_first (ships q e ∷ xs) s p m inside tied now = stays s p _ m tied now
-  rests_first (holds c e ∷ xs) s p m inside tied now = stays s p _ m tied now
-  rests_first (adds_own c r e ∷ xs) s p m inside tied now = stays s p _ m tied now
-  rests_first (adds_taken c q e ∷ xs) s p m inside tied now = stays s p _ m tied now
-  rests_first (stores e ∷ xs) s p m inside tied now = stays s p _ m tied now
+  rests_first (d ∷ xs) s p m inside tied now = stays s p _ m tied now
 
   -- requests lead to a state tied to memory m, in which the boards below a count have nothing to do
   pub record EndedBelow (s : State V (Own V)) (m : Memory V) (count : ℕ) : Type 0 where

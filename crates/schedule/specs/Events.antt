@@ -23,9 +23,7 @@ owner_in q deals e = board_of q deals e.0 e.1 e.2
 -- the board that does a task in an iteration: the owner of the element ships it, the target's owner does all else
 abbrev pub doer : ℕ → Deals → Said → Task → Iteration → ℕ
 doer q deals s (Ship r) e = board_at (seat q deals 0) r.source e
-doer q deals s Base e = board_at (seat q deals 0) s.put e
-doer q deals s (Add r) e = board_at (seat q deals 0) s.put e
-doer q deals s Store e = board_at (seat q deals 0) s.put e
+doer q deals s _ e = board_at (seat q deals 0) s.put e
 
 -- a step as an event, unless it does nothing
 abbrev pub event_for : ℕ → Deed → List Event

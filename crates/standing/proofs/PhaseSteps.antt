@@ -39,10 +39,7 @@ item_there f (x ∷ xs) (suc n) = let e : ltb (suc n) (suc (length xs)) ≡ ltb 
 -- a phase has a task where it goes with the work
 pub task_there : (s : Said) (w : Work) (p : Phase) → is_some (task_in s w p) ≡ goes_with w (length s.reads) p
 task_there s (One t) Single = refl
-task_there s (One t) (Ships n) = refl
-task_there s (One t) Base = refl
-task_there s (One t) (Adds n) = refl
-task_there s (One t) Store = refl
+task_there s (One t) _ = refl
 task_there s Walk Single = refl
 task_there s Walk (Ships n) = item_there ShipTask s.reads n
 task_there s Walk Base = refl
@@ -67,10 +64,7 @@ item_drop xs n x h = drop_more xs n x (slice_get_within xs n x h) ∙ ap (λ y. 
 -- the task at a phase's number is the phase's own
 task_at : (s : Said) (w : Work) (p : Phase) → goes_with w (length s.reads) p ≡ true → slice_get (tasks_in s w) (phase_number (length s.reads) p) ≡ task_in s w p
 task_at s (One t) Single h = refl
-task_at s (One t) (Ships n) h = cc
-task_at s (One t) Base h = cc
-task_at s (One t) (Adds n) h = cc
-task_at s (One t) Store h = cc
+task_at s (One t) _ h = cc
 task_at s Walk Single h = cc
 task_at s Walk (Ships n) h = item_left ShipTask s.reads (BaseTask ∷ (map AddTask s.reads ++ (StoreTask ∷ []))) n (ltb-true n (length s.reads) h)
 task_at s Walk Base h = item_right ShipTask s.reads (BaseTask ∷ (map AddTask s.reads ++ (StoreTask ∷ []))) (length s.reads) 0 (omega arith)
@@ -100,10 +94,7 @@ Follows w reads p (Some q) = (phase_number reads q ≡ phase_number reads p + 1)
 
 pub phase_follows : (w : Work) (reads : ℕ) (p : Phase) → goes_with w reads p ≡ true → Follows w reads p (phase_after p reads)
 phase_follows (One t) reads Single h = refl
-phase_follows (One t) reads (Ships n) h = absurd (true≢false (sym h))
-phase_follows (One t) reads Base h = absurd (true≢false (sym h))
-phase_follows (One t) reads (Adds n) h = absurd (true≢false (sym h))
-phase_follows (One t) reads Store h = absurd (true≢false (sym h))
+phase_follows (One t) reads _ h = absurd (true≢false (sym h))
 phase_follows Walk reads Single h = absurd (true≢false (sym h))
 phase_follows Walk reads (Ships n) h = step (ltb (n + 1) reads) refl
   where
@@ -112,13 +103,9 @@ phase_follows Walk reads (Ships n) h = step (ltb (n + 1) reads) refl
     step false e = (omega (arith, ltb-true n reads h, ltb-false (n + 1) reads e), refl)
 phase_follows Walk reads Base h = step (eqb reads 0) refl
   where
-    positive : (m : ℕ) → (m ≡ 0 → ⊥) → 0 < m
-    positive zero no_zero = absurd (no_zero refl)
-    positive (suc m) no_zero = omega arith
-
     step : (t : Bool) → eqb reads 0 ≡ t → Follows Walk reads Base (Some (cond t Store (Adds 0)))
     step true e = (omega (arith, eqb-true reads 0 e), refl)
-    step false e = (omega arith, lt-ltb 0 reads (positive reads (eqb-false reads 0 e)))
+    step false e = (omega arith, lt-ltb 0 reads (omega (arith, eqb-false reads 0 e)))
 phase_follows Walk reads (Adds n) h = step (ltb (n + 1) reads) refl
   where
     step : (t : Bool) → ltb (n + 1) reads ≡ t → Follows Walk reads (Adds n) (Some (cond t (Adds (n + 1)) Store))

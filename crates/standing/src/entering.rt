@@ -15,6 +15,7 @@ use compiler::order::Order;
 fn has_cells(order: &Order) -> bool
     ensures { result ≡ has_cells order.now }
 {
+    // Kept: no plainer by ranges, whose `is_empty` would be negated twice.
     order.i.first < order.i.end && order.j.first < order.j.end
 }
 

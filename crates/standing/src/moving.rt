@@ -23,6 +23,7 @@ impl Course<'_> {
         if let Some(phase) = at.phase.next(reads) {
             return Some(Place { phase, ..at });
         }
+        // Kept: tried `or_else`, but of what a closure over a course returns a proof learns nothing, so that none closed.
         match at.next_cell(order, reads) {
             Some(next) => Some(next),
             None => self.orders_from(at.sweep, at.order + 1),
