@@ -61,15 +61,15 @@ pub record Went {V : Type 0} (k : Setting V) (boards depth : ℕ) (s t : State V
   pub taken : (p : ℕ) → taken_in_all (t.own p) ≡ taken_in_all (s.own p)
   pub long : length list + steps_left boards t ≡ steps_left boards s
 
-module _ {V : Type 0} (k : Setting V) (boards depth : ℕ) where
+module _ {V : Type 0} {k : Setting V} {boards depth : ℕ} where
   -- no request
-  pub went_nowhere : (s : State V (Own V)) → Went k boards depth s s []
+  pub went_nowhere : {s : State V (Own V)} → Went k boards depth s s []
   unfolding state_after
-  went_nowhere s = record { runs = tt; leads = refl; ran = λ _. refl; put = λ _. refl; taken = λ _. refl; long = omega arith }
+  went_nowhere = record { runs = tt; leads = refl; ran = λ _. refl; put = λ _. refl; taken = λ _. refl; long = omega arith }
 
   -- requests after requests
-  pub went_on : (s t u : State V (Own V)) (xs ys : List ℕ) → Went k boards depth s t xs → Went k boards depth t u ys → Went k boards depth s u (xs ++ ys)
-  went_on s t u xs ys a b =
+  pub went_on : {s t u : State V (Own V)} {xs ys : List ℕ} → Went k boards depth s t xs → Went k boards depth t u ys → Went k boards depth s u (xs ++ ys)
+  went_on {s} {t} {u} {xs} {ys} a b =
       let ask = request (boards_that k boards) depth in
       record {
         runs = all_ran_++ ask xs ys s a.runs (subst (λ (x : State V (Own V)). AllRan ask x ys) (sym a.leads) b.runs);
@@ -80,6 +80,7 @@ module _ {V : Type 0} (k : Setting V) (boards depth : ℕ) where
         long = omega (arith, length-append xs ys, a.long, b.long);
       }
 
+module _ {V : Type 0} (k : Setting V) (boards depth : ℕ) where
   -- one request, to a board that counts its step
   pub one_step : (s : State V (Own V)) (p : ℕ) (d : Deed) (rest : List Deed) (new : Own V) (row : ℕ → ℕ → List V) → p < boards → (s.own p).todo ≡ d ∷ rest
       → new.todo ≡ rest → new.ran ≡ (s.own p).ran + 1 → new.put ≡ (s.own p).put + puts_in d → new.taken ≡ (s.own p).taken + takes_in d

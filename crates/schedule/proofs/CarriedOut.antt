@@ -14,7 +14,7 @@ use Rattle.schedule.specs.Start.{There, Tied}
 use Rattle.schedule.specs.Laws.{puts_in, takes_in, CarriedOut, EventsAreCarriedOut}
 use Rattle.schedule.proofs.BoardSteps.{went_on, steps_left}
 use Rattle.schedule.proofs.StepEvents.{Came, runs_next}
-use Rattle.schedule.proofs.Resting.{rested, work_next, came_on, rests_first, EndedBelow, all_rest}
+use Rattle.schedule.proofs.Resting.{work_next, came_on, rests_first, EndedBelow, all_rest}
 
 -- the first event is of the share of its own board, and of no other
 pub share_here : (ev : Event) (events : List Event) → share_of ev.0 (ev ∷ events) ≡ ev.1 ∷ share_of ev.0 events
@@ -46,7 +46,7 @@ module _ {V : Type 0} (k : Setting V) (boards depth : ℕ) (Here : Element → T
       let next = work_next (s.own p).todo ev.1 (share_of p events) (sym (shared p inside) ∙ share_here ev events) in
       let first = rests_first k boards depth Here owner (s.own p).todo s p m inside tied refl in
       let second = runs_next k boards depth Here owner first.to m p next.0 inside first.tied ev.1 (first.here ∙ next.1) can.0 (home ev (inl refl)).1 in
-      (next.0, came_on k boards depth Here owner s p (rested (s.own p).todo) next.0 m (after_event k m ev) first second, next.2)
+      (next.0, came_on first second, next.2)
 
   -- after an event the shares of the others are the work that is left
   still_shared : (s t : State V (Own V)) (ev : Event) (events : List Event) (rest : List Deed) → Shared s (ev ∷ events)
@@ -69,7 +69,7 @@ module _ {V : Type 0} (k : Setting V) (boards depth : ℕ) (Here : Element → T
       record {
         to = later.to;
         list = came.list ++ later.list;
-        went = went_on k boards depth s came.to later.to came.list later.list came.went later.went;
+        went = went_on came.went later.went;
         tied = later.tied;
         below = later.below;
         above = λ p far. later.above p far ∙ came.others p (omega arith);

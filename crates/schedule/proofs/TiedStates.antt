@@ -27,10 +27,10 @@ unfolding written
 written_like e v w f g x a b = λ i. cond (same_element x e) (a i) (b i)
 
 -- the values of owners, where board p has something new
-module _ {V : Type 0} (There : Element → Type 0) (owner : Element → ℕ) (own : ℕ → Own V) (p : ℕ) (new : Own V) (f : Own V → Element → V) (g : Element → V)
-    (tied : (e : Element) → There e → f (own (owner e)) e ≡ g e)
+module _ {V : Type 0} (Here : Element → Type 0) (owner : Element → ℕ) (own : ℕ → Own V) (p : ℕ) (new : Own V) (f : Own V → Element → V) (g : Element → V)
+    (tied : (e : Element) → Here e → f (own (owner e)) e ≡ g e)
   where
-    pub keeps : f new ≡ f (own p) → (e : Element) → There e → f (replaced p new own (owner e)) e ≡ g e
+    pub keeps : f new ≡ f (own p) → (e : Element) → Here e → f (replaced p new own (owner e)) e ≡ g e
     keeps same e there = pick (cases_eq (owner e) p)
       where
         pick : (owner e ≡ p) ⊎ (owner e ≢ p) → f (replaced p new own (owner e)) e ≡ g e
@@ -39,8 +39,8 @@ module _ {V : Type 0} (There : Element → Type 0) (owner : Element → ℕ) (ow
             ∙ tied e there
         pick (inr ne) = ap (λ o. f o e) (replaced_other p (owner e) new own ne) ∙ tied e there
 
-    pub writes : (at : Element) (v w : V) → There at → owner at ≡ p → f new ≡ written at v (f (own p)) → v ≡ w
-        → (e : Element) → There e → f (replaced p new own (owner e)) e ≡ written at w g e
+    pub writes : (at : Element) (v w : V) → Here at → owner at ≡ p → f new ≡ written at v (f (own p)) → v ≡ w
+        → (e : Element) → Here e → f (replaced p new own (owner e)) e ≡ written at w g e
     writes at v w home mine same value e there = pick (cases_eq (owner e) p)
       where
         pick : (owner e ≡ p) ⊎ (owner e ≢ p) → f (replaced p new own (owner e)) e ≡ written at w g e
@@ -51,5 +51,5 @@ module _ {V : Type 0} (There : Element → Type 0) (owner : Element → ℕ) (ow
             ap (λ o. f o e) (replaced_other p (owner e) new own ne) ∙ tied e there ∙ sym (written_elsewhere at w g e (λ x. ne (ap owner x ∙ mine)))
 
     -- what the owner has at its own element
-    pub has : (e : Element) → There e → owner e ≡ p → f (own p) e ≡ g e
+    pub has : (e : Element) → Here e → owner e ≡ p → f (own p) e ≡ g e
     has e there mine = ap (λ q. f (own q) e) (sym mine) ∙ tied e there

@@ -30,10 +30,10 @@ takes_in _ = 0
 
 -- boards were asked by a list, each request was answered ran, and they ended: each ran all its steps, and the values at
 -- the owners are those of one memory
-pub record CarriedOut {V : Type 0} (k : Setting V) (boards depth : ℕ) (There : Element → Type 0) (owner : Element → ℕ)
+pub record CarriedOut {V : Type 0} (k : Setting V) (boards depth : ℕ) (Here : Element → Type 0) (owner : Element → ℕ)
     (s : State V (Own V)) (list : List ℕ) (end : Memory V) : Type 0 where
   pub runs : AllRan (request (boards_that k boards) depth) s list
-  pub tied : Tied There owner (state_after (request (boards_that k boards) depth) s list) end
+  pub tied : Tied Here owner (state_after (request (boards_that k boards) depth) s list) end
   pub todo : (p : ℕ) → p < boards → ((state_after (request (boards_that k boards) depth) s list).own p).todo ≡ []
   pub ran : (p : ℕ) → p < boards → ((state_after (request (boards_that k boards) depth) s list).own p).ran ≡ (s.own p).ran + length (s.own p).todo
   pub put : (p : ℕ) → p < boards → ((state_after (request (boards_that k boards) depth) s list).own p).put ≡ (s.own p).put + sum_by puts_in (s.own p).todo

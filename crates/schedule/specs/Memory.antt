@@ -50,12 +50,12 @@ AllCan k depth m (ev ∷ events) = Can depth m ev.0 ev.1 × AllCan k depth (afte
 
 -- an event touches only elements that are there and belong to its board
 abbrev pub AtHome : (Element → Type 0) → (Element → ℕ) → ℕ → Deed → Type 0
-AtHome There owner p rests = Unit {0}
-AtHome There owner p (ships q e) = There e × (owner e ≡ p)
-AtHome There owner p (holds c e) = There e × (owner e ≡ p)
-AtHome There owner p (adds_own c r e) = There r × (owner r ≡ p) × There e × (owner e ≡ p)
-AtHome There owner p (adds_taken c q e) = There e × (owner e ≡ p)
-AtHome There owner p (stores e) = There e × (owner e ≡ p)
+AtHome Here owner p rests = Unit {0}
+AtHome Here owner p (ships q e) = Here e × (owner e ≡ p)
+AtHome Here owner p (holds c e) = Here e × (owner e ≡ p)
+AtHome Here owner p (adds_own c r e) = Here r × (owner r ≡ p) × Here e × (owner e ≡ p)
+AtHome Here owner p (adds_taken c q e) = Here e × (owner e ≡ p)
+AtHome Here owner p (stores e) = Here e × (owner e ≡ p)
 
 -- the steps of board p among some events
 abbrev pub share_of : ℕ → List Event → List Deed

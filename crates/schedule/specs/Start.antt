@@ -25,9 +25,9 @@ OwnersHave n deals outside own buffer =
     (e : Element) → There n.arrays e → (own (owner_in n.grid.rows deals e)).elements e ≡ slice_index_or buffer (place_of n.arrays e.0 e.1 e.2) outside
 
 -- every owner has the values of one memory, and the rows are the same
-pub record Tied {V : Type 0} (There : Element → Type 0) (owner : Element → ℕ) (s : State V (Own V)) (m : Memory V) : Type 0 where
-  pub elements : (e : Element) → There e → (s.own (owner e)).elements e ≡ m.elements e
-  pub held : (e : Element) → There e → (s.own (owner e)).held e ≡ m.held e
+pub record Tied {V : Type 0} (Here : Element → Type 0) (owner : Element → ℕ) (s : State V (Own V)) (m : Memory V) : Type 0 where
+  pub elements : (e : Element) → Here e → (s.own (owner e)).elements e ≡ m.elements e
+  pub held : (e : Element) → Here e → (s.own (owner e)).held e ≡ m.held e
   pub rows : s.row ≡ m.row
 
 -- the boards are loaded with arrays: each is before its first step, nothing was counted, no letter waits
