@@ -15,7 +15,7 @@ pub(crate) fn ranged(token: Token, low: usize, high: usize) -> Result<usize, Fie
     ensures bound { IfOk result (λ n. (low ≤ n) × (n ≤ high)) }
 {
     let n = token.magnitude();
-    if low <= n && n <= high {
+    if (low..=high).contains(&n) {
         Ok(n)
     } else {
         Err(FieldFault {
