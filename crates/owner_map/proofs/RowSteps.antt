@@ -49,8 +49,8 @@ module _ (p size : ℕ) (row : List ℕ) where
   below_counted b bound k high e =
       sym (tally_counts b (take k row)) ∙ ap (λ n. tally b (take n row)) e ∙ sym (ap (tally b) (take-take (bound - 1) size row (omega arith)))
 
-  pub place_counted : (x k : ℕ) → 1 ≤ x → x ≤ size → k ≡ x - 1 → (get_or row k 0, count_by (λ o. o == get_or row k 0) (take k row)) ≡ place (listed p (take size row)) x
-  place_counted x k low high e =
+  pub place_counted : (x k r : ℕ) → 1 ≤ x → x ≤ size → k ≡ x - 1 → r ≡ count_by (λ o. o == get_or row k 0) (take k row) → (get_or row k 0, r) ≡ place (listed p (take size row)) x
+  place_counted x k r low high e n =
       let o : get_or row k 0 ≡ owner (listed p (take size row)) x = ap (λ n. get_or row n 0) e ∙ sym (get_or-take size row (x - 1) 0 (omega arith)) in
-      let t = below_counted (get_or row k 0) x k (omega arith) e ∙ ap (λ b. below (listed p (take size row)) b x) o in
+      let t = n ∙ below_counted (get_or row k 0) x k (omega arith) e ∙ ap (λ b. below (listed p (take size row)) b x) o in
       λ i. (o i, t i)

@@ -1,4 +1,4 @@
-use Rattle.std.proofs.Common.{◌≡◌, ◌==◌, ◌∙◌, ap, count_by, take, get_or, arith, rules}
+use Rattle.std.proofs.Common.{◌≡◌, ◌==◌, count_by, take, get_or, arith, rules}
 use Rattle.std.proofs.lemmas.List.{length-take-le}
 use Rattle.owner_map.proofs.RowSteps.{place_counted}
 use Rattle.owner_map.proofs.table.lookup.OwnerTableOwnerMap.place.Goals as goal
@@ -10,4 +10,4 @@ returns c =
     let on = c.in_ok-before.ensures in
     let n : c.count-rank.result ≡ count_by (λ o. o == get_or m.row k 0) (take k m.row) = search rules in
     let size = length-take-le m.numbers.length m.row (omega arith) in
-    ((on.0.0, omega arith), ap (λ r. (get_or m.row k 0, r)) n ∙ place_counted m.numbers.boards m.numbers.length m.row c.args.x k on.0.0 on.0.1 on.1)
+    ((on.0.0, omega arith), place_counted m.numbers.boards m.numbers.length m.row c.args.x k c.count-rank.result on.0.0 on.0.1 on.1 n)
