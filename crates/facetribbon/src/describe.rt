@@ -2,7 +2,7 @@
 ghost use Rattle.std.specs.Prelude.{◌≡◌, ◌+◌, ◌-◌, ◌<◌, ◌≤◌};
 
 use nest::nest::Nest;
-use nest::terms::{Array, Range, Statement};
+use nest::terms::{Array, Grid, Range, Statement};
 use std::io;
 
 // How many values a range has; no range of a nest is past the cap.
@@ -31,9 +31,7 @@ fn describe_statement(rt: &HostRuntime, number: usize, statement: &Statement) ->
 
 /// Prints what was read, a line for each part of the nest.
 pub(crate) fn describe(rt: &HostRuntime, nest: &Nest) -> io::Result<()> {
-    let grid = nest.grid();
-    let rows = grid.rows;
-    let columns = grid.columns;
+    let Grid { rows, columns } = nest.grid();
     let sweeps = nest.sweeps();
     println!(rt; "grid: {rows} x {columns} boards")?;
     for (k, array) in nest.arrays().iter().enumerate() {

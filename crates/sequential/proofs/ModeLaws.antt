@@ -1,5 +1,5 @@
 -- What FORALL and DO mean, for every statement that keeps its ranges. Assumes nothing.
-use Rattle.std.proofs.Common.{◌≡◌, Bool, true, leb, List, [], ◌∷◌, length, get_or, fold, ap, ◌∙◌, inl, inr, arith}
+use Rattle.std.proofs.Common.{◌≡◌, ℕ, Bool, true, leb, List, [], ◌∷◌, length, get_or, fold, ap, ◌∙◌, inl, inr, arith}
 use Rattle.std.proofs.lemmas.Bool.{and_parts}
 use Rattle.nest.specs.Terms.{Said}
 use Rattle.nest.specs.Sound.{each, access_kept, read_kept, statement_kept}
@@ -13,7 +13,7 @@ use Rattle.sequential.specs.Run.{Setting, setting_of, Buffers, target_in, value_
 use Rattle.sequential.specs.Laws.{In, with_mode, StoredTogether, ReadsOthers, ModesMean}
 use Rattle.sequential.proofs.Kept.{Parts, parts_of, reached, target_reached}
 use Rattle.sequential.proofs.Targets.{in_iterations, targets_apart, target_below}
-use Rattle.sequential.proofs.Passing.{held_elements, held_length, held_other, held_target, stored_held, stored_length, stored_other, stored_target}
+use Rattle.sequential.proofs.Passing.{written_other, written_target, held_elements, held_written, held_length, held_for, stored_held, stored_written, stored_length}
 use Rattle.sequential.proofs.Fusion.{Unread, at_once}
 
 pub each_in : {X : Type 0} (f : X → Bool) (xs : List X) (x : X) → each f xs ≡ true → In x xs → f x ≡ true
@@ -28,14 +28,17 @@ module _ {V : Type 0} (k : Setting V) (s : Said) (kept : Parts k.arrays s) where
       let t = target_in k.arrays s in
       let h = fold (doing Hold k s) b es in
       let apart = targets_apart k.arrays s kept in
-      let holds : (e : Iteration) → In e es → get_or h.held (t e) k.outside ≡ value_in k s b.elements e = held_target k s es b apart (λ e m. omega (arith, target_below k.arrays s kept e m)) in
+      let at : (n : ℕ) → List V → V = λ n xs. get_or xs n k.outside in
       let same = held_elements k s es b in
       let long : length h.elements ≡ total k.arrays = ap length same ∙ p in
+      let holds : (e : Iteration) → In e es → at (t e) h.held ≡ value_in k s b.elements e = λ e m.
+      ap (at (t e)) (held_written k s es b) ∙ written_target t (value_in k s b.elements) es b.held k.outside apart (λ x l. omega (arith, target_below k.arrays s kept x l)) e m in
       record {
-        element = λ e m. stored_target k s es h apart (λ x l. omega (arith, target_below k.arrays s kept x l)) e m ∙ holds e m;
-        held = λ e m. ap (λ x. get_or x (t e) k.outside) (stored_held k s es h) ∙ holds e m;
-        other_elements = λ n none. stored_other k s es h n none ∙ ap (λ x. get_or x n k.outside) same;
-        other_held = λ n none. ap (λ x. get_or x n k.outside) (stored_held k s es h) ∙ held_other k s es b n none;
+        element = λ e m.
+            ap (at (t e)) (stored_written k s es h) ∙ written_target t (held_for k s h) es h.elements k.outside apart (λ x l. omega (arith, target_below k.arrays s kept x l)) e m ∙ holds e m;
+        held = λ e m. ap (at (t e)) (stored_held k s es h) ∙ holds e m;
+        other_elements = λ n none. ap (at n) (stored_written k s es h) ∙ written_other t (held_for k s h) es h.elements n k.outside none ∙ ap (at n) same;
+        other_held = λ n none. ap (at n) (stored_held k s es h) ∙ (ap (at n) (held_written k s es b) ∙ written_other t (value_in k s b.elements) es b.held n k.outside none);
         elements_length = stored_length k s es h ∙ ap length same;
         held_length = ap length (stored_held k s es h) ∙ held_length k s es b;
       }

@@ -7,6 +7,7 @@ use layout::table::Layout;
 use nest::terms::Statement;
 
 /// A statement of a nest, with what all its iterations go by.
+// Kept: the two lent buffers stay beside it; as fields, the names of their references would stand in every contract.
 #[derive(Drop)]
 pub(crate) struct Running<'a, T> {
     pub(crate) layout: Layout<'a>,
