@@ -1,27 +1,24 @@
 -- What a slot that comes and a slot that goes mean for the rows of a belt. Assumes nothing.
-use Rattle.std.proofs.Common.{◌≡◌, ℕ, suc, ◌+◌, ◌-◌, ◌*◌, ◌<◌, ◌≤◌, true, false, ◌&&◌, eqb, ◌≢◌, ◌⊎◌, List, [], ◌∷◌, ◌++◌, length, get_or, take, drop, set, Some, sym, refl, ap, ◌∙◌, subst, ap₂, inl, inr, arith, length-append}
-use Rattle.std.proofs.lemmas.List.{append-nil, take-append-drop, take_more_set, drop_more, nil_from_length, length-take-le, get_or-take}
-use Rattle.std.proofs.lemmas.Bool.{cases_Bool, and_parts, and_from, eqb-true, eq-eqb, both_ways}
-use Rattle.std.specs.List.{remove}
+use Rattle.std.proofs.Common.{◌≡◌, ℕ, suc, ◌+◌, ◌-◌, ◌<◌, ◌≤◌, true, false, ◌≢◌, List, [], ◌∷◌, ◌++◌, length, get_or, take, drop, set, Some, sym, refl, ap, ◌∙◌, subst, ap₂, Ok, arith, length-append}
+use Rattle.std.proofs.lemmas.List.{append-nil, take-append-drop, take_more_set, drop_more, nil_from_length, length-take-le, get_or-take, length-set}
+use Rattle.std.proofs.lemmas.Bool.Decides.{nat_tests}
+use Rattle.std.proofs.lemmas.Grind.{common_steps}
+use Rattle.std.specs.List.{copy_within, remove}
+use Rattle.belt.specs.declared.belt.Belt.{Belt}
 use Rattle.belt.specs.declared.slots.Slot.{Slot}
 use Rattle.belt.specs.Belt.{for_pair, letters_for, Kept, FirstOf, belt_mail}
+use Rattle.post.specs.Answers.{service}
 use Rattle.post.specs.Mail.{Mail, letter, oldest, after_put, take_answer, after_take}
 use Rattle.post.proofs.Mails.{one_row}
-use Rattle.post.proofs.Steps.{put_joins, take_oldest, take_drops}
+use Rattle.post.proofs.Steps.{admitted, put_joins, take_oldest, take_drops}
+use Rattle.belt.proofs.Gaps.{closed_gap}
 use Rattle.belt.proofs.Lines.{letters_append, letters_mine, letters_other}
-use Rattle.belt.proofs.Crowds.{some_room, own_pair}
+use Rattle.belt.proofs.Crowds.{some_room, own_pair, one_more}
 
 module _ {V : Type 0} where
   -- a slot of another pair
   not_mine : (p q s r : ℕ) (x : Slot V) → for_pair p q x ≡ true → (s ≡ p → r ≡ q → ⊥) → for_pair s r x ≡ false
-  not_mine p q s r x mine apart = go (cases_Bool (for_pair s r x))
-    where
-      go : (for_pair s r x ≡ true) ⊎ (for_pair s r x ≡ false) → for_pair s r x ≡ false
-      go (inr e) = e
-      go (inl e) =
-          let m = and_parts (eqb x.pair.from p) (eqb x.pair.to q) mine in
-          let o = and_parts (eqb x.pair.from s) (eqb x.pair.to r) e in
-          absurd (apart (sym (eqb-true x.pair.from s o.0) ∙ eqb-true x.pair.from p m.0) (sym (eqb-true x.pair.to r o.1) ∙ eqb-true x.pair.to q m.1))
+  not_mine p q s r x mine apart = grind (arith, common_steps, nat_tests)
 
   -- a slot of the pair p, q joins the end
   module _ (p q : ℕ) (x : Slot V) (mine : for_pair p q x ≡ true) (slots : List (Slot V)) where
@@ -35,22 +32,10 @@ module _ {V : Type 0} where
         ∙ append-nil (letters_for s r slots)
 
     pub kept_joined : (n d : ℕ) → Kept n d slots → p < n → q < n → length (letters_for p q slots) < d → Kept n d (slots ++ (x ∷ []))
-    kept_joined n d kept h k less s r = go (cases_Bool (eqb s p && eqb r q))
-      where
-        Good : ℕ → Type 0
-        Good c = (c ≤ d) × (n ≤ s → c ≤ 0) × (n ≤ r → c ≤ 0)
-
-        go : ((eqb s p && eqb r q) ≡ true) ⊎ ((eqb s p && eqb r q) ≡ false) → Good (length (letters_for s r (slots ++ (x ∷ []))))
-        go (inl e) =
-            let parts = and_parts (eqb s p) (eqb r q) e in
-            let same_s = eqb-true s p parts.0 in
-            let same-r = eqb-true r q parts.1 in
-            let long : length (letters_for s r (slots ++ (x ∷ []))) ≡ length (letters_for p q slots) + 1 =
-            ap length (ap₂ (λ a b. letters_for a b (slots ++ (x ∷ []))) same_s same-r ∙ joined_mine) ∙ length-append (letters_for p q slots) (x.letter ∷ []) in
-            (omega arith, λ l. absurd (omega arith), λ l. absurd (omega arith))
-        go (inr e) =
-            let apart : s ≡ p → r ≡ q → ⊥ = λ f g. both_ways (eqb s p && eqb r q) e (and_from (eqb s p) (eqb r q) (eq-eqb s p f) (eq-eqb r q g)) in
-            subst Good (sym (ap length (joined_other s r apart))) (kept s r)
+    kept_joined n d kept h k less s r =
+        let more : length (letters_for s r (slots ++ (x ∷ []))) ≡ length (letters_for s r slots) + length (letters_for s r (x ∷ [])) = ap length (letters_append s r slots (x ∷ [])) ∙ length-append (letters_for s r slots) (letters_for s r (x ∷ [])) in
+        let old = kept s r in
+        grind (arith, common_steps, nat_tests, one_more s r x [])
 
   -- the first slot of the pair p, q goes
   module _ (p q i : ℕ) (x : Slot V) (slots : List (Slot V)) (first : FirstOf p q slots (Some i)) (read : x ≡ get_or slots i x) where
@@ -78,69 +63,78 @@ module _ {V : Type 0} where
         ∙ sym (letters_append s r (take i slots) (drop (suc i) slots))
 
     pub kept_gone : (n d : ℕ) → Kept n d slots → Kept n d (remove slots i)
-    kept_gone n d kept s r = go (cases_Bool (eqb s p && eqb r q))
-      where
-        Good : ℕ → Type 0
-        Good c = (c ≤ d) × (n ≤ s → c ≤ 0) × (n ≤ r → c ≤ 0)
+    kept_gone n d kept s r =
+        let whole = ap length (split s r) ∙ length-append (letters_for s r (take i slots)) (letters_for s r (x ∷ drop (suc i) slots)) in
+        let rest = ap length (letters_append s r (take i slots) (drop (suc i) slots)) ∙ length-append (letters_for s r (take i slots)) (letters_for s r (drop (suc i) slots)) in
+        let fewer : length (letters_for s r (remove slots i)) ≤ length (letters_for s r slots) = omega (arith, whole, rest, one_more s r x (drop (suc i) slots)) in
+        let old = kept s r in
+        (omega (arith, fewer), λ l. omega (arith, fewer, old.1 l), λ l. omega (arith, fewer, old.2 l))
 
-        go : ((eqb s p && eqb r q) ≡ true) ⊎ ((eqb s p && eqb r q) ≡ false) → Good (length (letters_for s r (remove slots i)))
-        go (inl e) =
-            let parts = and_parts (eqb s p) (eqb r q) e in
-            let here = ap₂ (λ a b. length (letters_for a b (remove slots i))) (eqb-true s p parts.0) (eqb-true r q parts.1) in
-            let whole = ap₂ (λ a b. length (letters_for a b slots)) (eqb-true s p parts.0) (eqb-true r q parts.1) in
-            let long : length (letters_for p q slots) ≡ suc (length (letters_for p q (remove slots i))) = ap length gone_mine in
-            let k = kept s r in
-            (omega (arith, here, whole, k.0), λ l. omega (arith, here, whole, k.1 l), λ l. omega (arith, here, whole, k.2 l))
-        go (inr e) =
-            let apart : s ≡ p → r ≡ q → ⊥ = λ f g. both_ways (eqb s p && eqb r q) e (and_from (eqb s p) (eqb r q) (eq-eqb s p f) (eq-eqb r q g)) in
-            subst Good (ap length (gone_other s r apart)) (kept s r)
+  -- a belt, and a pair that it does not refuse
+  module _ (b : Belt V) (p q : ℕ) (ok : Ok tt ≡ service b.boards p q) where
+    h : p < b.boards
+    h = (admitted b.boards p q tt ok).0
 
-  -- a belt of n boards over slots that have room for it, and a pair that is served
-  module _ (n d used p q : ℕ) (slots : List (Slot V)) (h : p < n) (k : q < n) where
+    k : q < b.boards
+    k = (admitted b.boards p q tt ok).1
+
+    abbrev slots : List (Slot V)
+    slots = b.slots.now
+
+    abbrev held : List (Slot V)
+    held = take b.used slots
+
     abbrev mail : Mail V
-    mail = belt_mail n d used slots
+    mail = belt_mail b.boards b.depth b.used slots
 
     -- the letter v comes
-    module _ (v : V) (free : length (letters_for p q (take used slots)) ≢ d) (kept : Kept n d (take used slots)) where
+    module _ (v : V) (free : length (letters_for p q held) ≢ b.depth) where
       abbrev new : Slot V
       new = record { pair = record { from = p; to = q }; letter = v }
 
-      free_below : length (letters_for p q (take used slots)) < d
-      free_below = omega (arith, (kept p q).0)
+      below : length (letters_for p q held) < b.depth
+      below = omega (arith, (b.kept p q).0)
 
-      pub slot_free : n * n * d ≤ length slots → used ≤ length slots → used < length slots
-      slot_free room within = omega (arith, some_room n d p q (take used slots) kept h k free_below, length-take-le used slots within)
+      pub slot_free : b.used < length slots
+      slot_free = omega (arith, some_room b.boards b.depth p q held b.kept h k below, length-take-le b.used slots b.held, b.room, b.held)
 
-      pub slot_kept : used < length slots → Kept n d (take (used + 1) (set slots used new))
-      slot_kept below = subst (Kept n d) (sym (take_more_set slots used new below)) (kept_joined p q new (own_pair new) (take used slots) n d kept h k free_below)
+      pub slot_held : b.used + 1 ≤ length (set slots b.used new)
+      slot_held = omega (arith, slot_free, length-set slots b.used new)
 
-      pub belt_put : used < length slots → belt_mail n d (used + 1) (set slots used new) ≡ after_put mail p q v
-      belt_put below =
-          one_row mail (belt_mail n d (used + 1) (set slots used new)) p q (mail.row p q ++ (v ∷ [])) refl refl
-          (ap (letters_for p q) (take_more_set slots used new below) ∙ joined_mine p q new (own_pair new) (take used slots))
-          (λ s r apart. ap (letters_for s r) (take_more_set slots used new below) ∙ joined_other p q new (own_pair new) (take used slots) s r apart)
+      pub slot_kept : Kept b.boards b.depth (take (b.used + 1) (set slots b.used new))
+      slot_kept = subst (Kept b.boards b.depth) (sym (take_more_set slots b.used new slot_free)) (kept_joined p q new (own_pair new) held b.boards b.depth b.kept h k below)
+
+      pub belt_put : belt_mail b.boards b.depth (b.used + 1) (set slots b.used new) ≡ after_put mail p q v
+      belt_put =
+          let more = take_more_set slots b.used new slot_free in
+          one_row mail (belt_mail b.boards b.depth (b.used + 1) (set slots b.used new)) p q (mail.row p q ++ (v ∷ [])) refl refl
+          (ap (letters_for p q) more ∙ joined_mine p q new (own_pair new) held)
+          (λ s r apart. ap (letters_for s r) more ∙ joined_other p q new (own_pair new) held s r apart)
           ∙ put_joins mail p q h k v free
 
     -- the first letter of the pair goes
-    module _ (i : ℕ) (x : Slot V) (moved : List (Slot V)) (first : FirstOf p q (take used slots) (Some i)) (within : used ≤ length slots) (read : x ≡ get_or slots i x) (closed : take (used - 1) moved ≡ remove (take used slots) i) where
-      i_below : i < used
-      i_below = omega (arith, first.0, length-take-le used slots within)
+    module _ (i : ℕ) (x : Slot V) (moved : List (Slot V)) (first : FirstOf p q held (Some i)) (read : x ≡ get_or slots i x) (copied : moved ≡ copy_within slots (i + 1) b.used i) where
+      i_below : i < b.used
+      i_below = omega (arith, first.0, length-take-le b.used slots b.held)
 
-      seen : x ≡ get_or (take used slots) i x
-      seen = read ∙ sym (get_or-take used slots i x i_below)
+      seen : x ≡ get_or held i x
+      seen = read ∙ sym (get_or-take b.used slots i x i_below)
 
-      row_split : mail.row p q ≡ x.letter ∷ letters_for p q (take (used - 1) moved)
-      row_split = gone_mine p q i x (take used slots) first seen ∙ ap (λ l. x.letter ∷ letters_for p q l) (sym closed)
+      closed : take (b.used - 1) moved ≡ remove held i
+      closed = ap (take (b.used - 1)) copied ∙ closed_gap slots i b.used i_below b.held
 
-      pub belt_oldest : letter x.letter ≡ take_answer mail p q
-      belt_oldest = sym (ap oldest row_split) ∙ take_oldest mail p q h k
+      row_split : mail.row p q ≡ x.letter ∷ letters_for p q (take (b.used - 1) moved)
+      row_split = gone_mine p q i x held first seen ∙ ap (λ l. x.letter ∷ letters_for p q l) (sym closed)
 
-      pub belt_take : belt_mail n d (used - 1) moved ≡ after_take mail p q
+      pub belt_oldest : letter (get_or slots i x).letter ≡ take_answer mail p q
+      belt_oldest = ap (λ y. letter y.letter) (sym read) ∙ sym (ap oldest row_split) ∙ take_oldest mail p q h k
+
+      pub belt_take : belt_mail b.boards b.depth (b.used - 1) moved ≡ after_take mail p q
       belt_take =
-          one_row mail (belt_mail n d (used - 1) moved) p q (drop 1 (mail.row p q)) refl refl
+          one_row mail (belt_mail b.boards b.depth (b.used - 1) moved) p q (drop 1 (mail.row p q)) refl refl
           (sym (ap (drop 1) row_split))
-          (λ s r apart. ap (letters_for s r) closed ∙ sym (gone_other p q i x (take used slots) first seen s r apart))
+          (λ s r apart. ap (letters_for s r) closed ∙ sym (gone_other p q i x held first seen s r apart))
           ∙ take_drops mail p q h k
 
-      pub gap_kept : Kept n d (take used slots) → Kept n d (take (used - 1) moved)
-      gap_kept kept = subst (Kept n d) (sym closed) (kept_gone p q i x (take used slots) first seen n d kept)
+      pub gap_kept : Kept b.boards b.depth (take (b.used - 1) moved)
+      gap_kept = subst (Kept b.boards b.depth) (sym closed) (kept_gone p q i x held first seen b.boards b.depth b.kept)

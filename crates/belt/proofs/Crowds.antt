@@ -1,9 +1,11 @@
 -- Room on a belt: where no pair has more than d letters and one has fewer, fewer than n * n * d letters wait. Assumes nothing.
 use Rattle.std.proofs.Common.{◌≡◌, ℕ, zero, suc, ◌+◌, ◌*◌, ◌<◌, ◌≤◌, Bool, true, false, cond, ◌&&◌, eqb, ◌⊎◌, List, [], ◌∷◌, length, refl, ap, ◌∙◌, ap₂, inl, inr, mul_assoc, suc-mul, arith}
-use Rattle.std.proofs.lemmas.Bool.{cases_eq, cases_lt, cases_Bool, cond-true, cond-false, eq-eqb, ne_eqb, and_from}
+use Rattle.std.proofs.lemmas.Bool.{cases_eq, cases_lt}
+use Rattle.std.proofs.lemmas.Bool.Decides.{nat_tests}
+use Rattle.std.proofs.lemmas.Grind.{common_steps}
 use Rattle.belt.specs.declared.slots.Slot.{Slot}
 use Rattle.belt.specs.Belt.{for_pair, letters_for, Kept}
-use Rattle.belt.proofs.Lines.{letters_mine, letters_other}
+use Rattle.belt.proofs.Lines.{letters_mine}
 
 -- the sum of f over the numbers below n
 abbrev tally : (ℕ → ℕ) → ℕ → ℕ
@@ -28,33 +30,24 @@ tally_most f d (suc n) h = omega (arith, h n (omega arith), tally_most f d n (λ
 
 tally_fewer : (f : ℕ → ℕ) (d n a : ℕ) → a < n → f a < d → ((k : ℕ) → k < n → f k ≤ d) → tally f n < n * d
 tally_fewer f d zero a l less h = absurd (omega arith)
-tally_fewer f d (suc n) a l less h = go (λ m. tally_fewer f d n a m less rest) (cases_eq a n)
+tally_fewer f d (suc n) a l less h = go (λ m. tally_fewer f d n a m less (λ k e. h k (omega arith))) (tally_most f d n (λ k e. h k (omega arith))) (cases_eq a n)
   where
-    rest : (k : ℕ) → k < n → f k ≤ d
-    rest k l = h k (omega arith)
-
-    go : (a < n → tally f n < n * d) → (a ≡ n) ⊎ (a ≡ n → ⊥) → f n + tally f n < suc n * d
-    go below (inl e) = omega (arith, ap f e, tally_most f d n rest, suc-mul n d)
-    go below (inr ne) = omega (arith, below (omega arith), h n (omega arith), suc-mul n d)
+    go : (a < n → tally f n < n * d) → tally f n ≤ n * d → (a ≡ n) ⊎ (a ≡ n → ⊥) → f n + tally f n < suc n * d
+    go below most (inl e) = omega (arith, ap f e, suc-mul n d)
+    go below most (inr ne) = omega (arith, below (omega arith), h n (omega arith), suc-mul n d)
 
 -- one at a, and nothing elsewhere
 tally_none : (a n : ℕ) → n ≤ a → tally (λ k. cond (eqb a k) 1 0) n ≡ 0
 tally_none a zero l = refl
-tally_none a (suc n) l =
-    let here : cond {A = ℕ} (eqb a n) 1 0 ≡ 0 = cond-false (eqb a n) 1 0 (ne_eqb a n (omega arith)) in
-    omega (arith, tally_none a n (omega arith))
+tally_none a (suc n) l = grind (arith, nat_tests, tally_none a n (omega arith))
 
 tally_one : (a n : ℕ) → a < n → tally (λ k. cond (eqb a k) 1 0) n ≡ 1
 tally_one a zero l = absurd (omega arith)
 tally_one a (suc n) l = go (tally_one a n) (cases_eq a n)
   where
     go : (a < n → tally (λ k. cond (eqb a k) 1 0) n ≡ 1) → (a ≡ n) ⊎ (a ≡ n → ⊥) → cond (eqb a n) 1 0 + tally (λ k. cond (eqb a k) 1 0) n ≡ 1
-    go below (inl e) =
-        let here : cond {A = ℕ} (eqb a n) 1 0 ≡ 1 = cond-true (eqb a n) 1 0 (eq-eqb a n e) in
-        omega (arith, tally_none a n (omega arith))
-    go below (inr ne) =
-        let here : cond {A = ℕ} (eqb a n) 1 0 ≡ 0 = cond-false (eqb a n) 1 0 (ne_eqb a n ne) in
-        omega (arith, below (omega arith))
+    go below (inl e) = grind (arith, nat_tests, tally_none a n (omega arith))
+    go below (inr ne) = grind (arith, nat_tests, below (omega arith))
 
 module _ {V : Type 0} where
   -- how many letters of each pair of n boards a list of slots holds, summed over the pairs
@@ -62,15 +55,7 @@ module _ {V : Type 0} where
   crowd n slots = tally (λ p. tally (λ q. length (letters_for p q slots)) n) n
 
   pub one_more : (p q : ℕ) (s : Slot V) (ss : List (Slot V)) → length (letters_for p q (s ∷ ss)) ≡ cond (for_pair p q s) 1 0 + length (letters_for p q ss)
-  one_more p q s ss = go (cases_Bool (for_pair p q s))
-    where
-      go : (for_pair p q s ≡ true) ⊎ (for_pair p q s ≡ false) → length (letters_for p q (s ∷ ss)) ≡ cond (for_pair p q s) 1 0 + length (letters_for p q ss)
-      go (inl e) =
-          let here : cond {A = ℕ} (for_pair p q s) 1 0 ≡ 1 = cond-true (for_pair p q s) 1 0 e in
-          omega (arith, ap length (letters_mine p q s ss e))
-      go (inr e) =
-          let here : cond {A = ℕ} (for_pair p q s) 1 0 ≡ 0 = cond-false (for_pair p q s) 1 0 e in
-          omega (arith, ap length (letters_other p q s ss e))
+  one_more p q s ss = grind (arith, common_steps)
 
   -- a slot counts for one pair
   one_receiver : (p n : ℕ) (s : Slot V) → s.pair.to < n → tally (λ q. cond (for_pair p q s) 1 0) n ≡ cond (eqb s.pair.from p) 1 0
@@ -90,7 +75,7 @@ module _ {V : Type 0} where
       ∙ ap (λ x. x + crowd n ss) (tally_one s.pair.from n h)
 
   pub own_pair : (s : Slot V) → for_pair s.pair.from s.pair.to s ≡ true
-  own_pair s = and_from (eqb s.pair.from s.pair.from) (eqb s.pair.to s.pair.to) (eq-eqb s.pair.from s.pair.from refl) (eq-eqb s.pair.to s.pair.to refl)
+  own_pair s = grind (arith, nat_tests)
 
   kept_rest : (n d : ℕ) (s : Slot V) (ss : List (Slot V)) → Kept n d (s ∷ ss) → Kept n d ss
   kept_rest n d s ss kept p q =

@@ -18,6 +18,7 @@ use post::sizes::{pair_depth, served_boards};
 pub struct Belt<'a, T> {
     boards: usize,
     depth: usize,
+    // Kept: no heap; the slots are lent, and those from `used` on hold no letter.
     used: usize,
     slots: &'a mut [Slot<T>],
     ghost room: { boards * boards * depth ≤ length slots.now },

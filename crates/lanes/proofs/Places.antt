@@ -1,16 +1,10 @@
 -- Pairs of boards numbered row by row, and the lanes of a slice. Assumes nothing.
-use Rattle.std.proofs.Common.{◌≡◌, ℕ, ◌+◌, ◌-◌, ◌*◌, ◌/◌, ◌%◌, ◌<◌, ◌≤◌, ◌≢◌, ◌⊎◌, List, length, take, drop, set, sym, ap, ◌∙◌, inl, inr, mul-le-mul_right, add-mul, mul-le-mul, arith, length-drop, length-take}
-use lib.Arith.{digits_lt, digits_div, digits_mod}
+use Rattle.std.proofs.Common.{◌≡◌, ℕ, ◌+◌, ◌-◌, ◌*◌, ◌/◌, ◌%◌, ◌<◌, ◌≤◌, ◌≢◌, ◌⊎◌, List, length, take, drop, set, sym, ap, ◌∙◌, inl, inr, mul-le-mul_right, add-mul, arith, length-drop, length-take}
+use lib.Arith.{digits_div, digits_mod}
 use lib.Seq.{take-set-lt}
 use Rattle.std.proofs.lemmas.List.{take-set-le, drop-set-lt, drop-set-add}
 use Rattle.std.proofs.lemmas.Bool.{cases_order}
 use Rattle.lanes.specs.Lanes.{place, lane}
-
-pub place_below : (n p q : ℕ) → p < n → q < n → place n p q < n * n
-place_below n p q h k = digits_lt h k
-
-pub square_below : (n : ℕ) → n ≤ 8 → n * n ≤ 64
-square_below n h = mul-le-mul h h
 
 -- two pairs with one place are one pair
 pub same_sender : (n p q s r : ℕ) → q < n → r < n → place n s r ≡ place n p q → s ≡ p
@@ -22,13 +16,6 @@ same_receiver n p q s r h k e = sym (digits_mod s k) ∙ ap (λ x. x % n) e ∙ 
 -- the lanes of places j and k of m do not meet
 pub lane_after : (d j k : ℕ) → j < k → j * d + d ≤ k * d
 lane_after d j k h = omega (arith, mul-le-mul_right d h, add-mul j 1 d)
-
-pub lane_within : (d k m : ℕ) → k < m → k * d + d ≤ m * d
-lane_within d k m h = lane_after d k m h
-
--- a place of lane k lies below the end of all m lanes
-pub spot_below : (d k m at : ℕ) → k < m → at < d → k * d + at < m * d
-spot_below d k m at h l = digits_lt h l
 
 module _ {V : Type 0} (d : ℕ) (letters : List V) where
   pub lane_length : (k : ℕ) → k * d + d ≤ length letters → length (lane d letters k) ≡ d

@@ -2,7 +2,8 @@
 use Rattle.std.proofs.Common.{◌≡◌, ℕ, suc, ◌+◌, ◌-◌, ◌<◌, ◌≤◌, cond, ltb, ◌≢◌, ◌⊎◌, List, [], ◌∷◌, ◌++◌, length, get_or, take, drop, set, sym, ap, ◌∙◌, ap₂, inl, inr, arith, length-append, length-drop, length-take}
 use lib.Seq.{take-set-lt}
 use Rattle.std.proofs.lemmas.List.{take-set-le, drop-set-lt, drop-set-add, take-append-le, set-append_left, set-append_right, take_more_set, drop_more, take_more, take-take, drop_all, append_assoc, length-take-le}
-use Rattle.std.proofs.lemmas.Bool.{cases_lt, cond-true, cond-false, lt-ltb, le-ltb}
+use Rattle.std.proofs.lemmas.Bool.{cases_lt}
+use Rattle.std.proofs.lemmas.Bool.Decides.{nat_tests}
 use Rattle.lanes.specs.declared.rings.Ring.{Ring}
 use Rattle.lanes.specs.Lanes.{in_ring}
 
@@ -32,28 +33,16 @@ module _ {V : Type 0} (places : List V) (first : ℕ) (inside : first ≤ length
 
   -- a lane of d places
   module _ (d count at : ℕ) (v : V) (long : length places ≡ d) (below : count < d) (round : at ≡ cond (ltb (first + count) d) (first + count) (first + count - d)) where
-    pub round_cases : ((first + count < d) × (at ≡ first + count)) ⊎ ((at + d ≡ first + count) × (at < first))
-    round_cases = go (cases_lt (first + count) d)
-      where
-        go : (first + count < d) ⊎ (d ≤ first + count) → ((first + count < d) × (at ≡ first + count)) ⊎ ((at + d ≡ first + count) × (at < first))
-        go (inl l) = inl (l, round ∙ cond-true (ltb (first + count) d) (first + count) (first + count - d) (lt-ltb (first + count) d l))
-        go (inr l) =
-            let is : at ≡ first + count - d = round ∙ cond-false (ltb (first + count) d) (first + count) (first + count - d) (le-ltb (first + count) d l) in
-            inr (omega arith, omega arith)
-
     pub set_round : turned first (set places at v) ≡ set (turned first places) count v
-    set_round = go round_cases
+    set_round = go (cases_lt (first + count) d)
       where
-        go : ((first + count < d) × (at ≡ first + count)) ⊎ ((at + d ≡ first + count) × (at < first)) → turned first (set places at v) ≡ set (turned first places) count v
-        go (inl e) = ap (λ i. turned first (set places i v)) e.1 ∙ set_before_end count v (omega arith)
-        go (inr e) = set_past_end count at v (omega arith) e.1
-
-    pub round_below : first < d → at < d
-    round_below h = go round_cases
-      where
-        go : ((first + count < d) × (at ≡ first + count)) ⊎ ((at + d ≡ first + count) × (at < first)) → at < d
-        go (inl e) = omega arith
-        go (inr e) = omega arith
+        go : (first + count < d) ⊎ (d ≤ first + count) → turned first (set places at v) ≡ set (turned first places) count v
+        go (inl l) =
+            let e : at ≡ first + count = grind (arith, nat_tests) in
+            ap (λ i. turned first (set places i v)) e ∙ set_before_end count v (omega arith)
+        go (inr l) =
+            let e : at + d ≡ first + count = grind (arith, nat_tests) in
+            set_past_end count at v (omega arith) (omega arith)
 
   -- one letter more, at a place that is `count` behind the first
   pub ring_more : (count : ℕ) (v : V) (changed : List V) → count < length places → turned first changed ≡ set (turned first places) count v → take (count + 1) (turned first changed) ≡ take count (turned first places) ++ (v ∷ [])
@@ -91,10 +80,8 @@ module _ {V : Type 0} (places : List V) (first : ℕ) (x : V) (inside : first < 
       where
         go : (first + 1 < d) ⊎ (d ≤ first + 1) → take (count - 1) (turned next places) ≡ take (count - 1) (drop (first + 1) places ++ take first places)
         go (inl l) =
-            ap (λ i. take (count - 1) (turned i places)) (round ∙ cond-true (ltb (first + 1) d) (first + 1) (first + 1 - d) (lt-ltb (first + 1) d l))
-            ∙ next_inside (count - 1) (omega arith)
+            let is : next ≡ first + 1 = grind (arith, nat_tests) in
+            ap (λ i. take (count - 1) (turned i places)) is ∙ next_inside (count - 1) (omega arith)
         go (inr l) =
-            let is : next ≡ first + 1 - d = round ∙ cond-false (ltb (first + 1) d) (first + 1) (first + 1 - d) (le-ltb (first + 1) d l) in
-            let start : next ≡ 0 = omega arith in
-            ap (λ i. take (count - 1) (turned i places)) start
-            ∙ next_at_end (count - 1) (omega arith) (omega arith)
+            let start : next ≡ 0 = grind (arith, nat_tests) in
+            ap (λ i. take (count - 1) (turned i places)) start ∙ next_at_end (count - 1) (omega arith) (omega arith)

@@ -18,7 +18,8 @@ use post::sizes::{pair_depth, served_boards};
 pub struct Lanes<'a, T> {
     boards: usize,
     depth: usize,
-    /// For each ordered pair, by sender and then receiver, its ring; the pair's lane has the same place in `letters`.
+    /// For each ordered pair, by sender and then receiver, its ring.
+    // Kept: no heap; the pair's lane has the same place in `letters`, so that one number finds both.
     rings: [Ring; 64],
     letters: &'a mut [T],
     ghost few: { boards ≤ 8 },
@@ -57,6 +58,7 @@ impl<'a, T> Lanes<'a, T> {
         ensures value { result ≡ (if nat_lt at self.now.depth then at else at - self.now.depth) }
         ensures inside { result < self.now.depth }
     {
+        // Kept: `%` would divide in each put and take.
         if at < self.depth { at } else { at - self.depth }
     }
 

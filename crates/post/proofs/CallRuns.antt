@@ -1,14 +1,15 @@
 -- Lists of calls, one call more, and where each letter goes. Assumes nothing.
-use Rattle.std.proofs.Common.{◌≡◌, ℕ, ◌+◌, ◌<◌, Bool, true, false, cond, ◌&&◌, eqb, List, [], ◌∷◌, ◌++◌, map, length, Result, get_or, take, drop, set, sym, refl, ap, ◌∙◌, ap₂, subst₂, arith}
+use Rattle.std.proofs.Common.{◌≡◌, ℕ, ◌+◌, ◌<◌, List, [], ◌∷◌, ◌++◌, map, length, Result, get_or, take, drop, set, sym, refl, ap, ◌∙◌, ap₂, subst₂, arith}
 use Rattle.std.proofs.lemmas.List.{take_more, take_more_set, drop-set-lt, drop-drop, take-take, map_push, append-nil, append_assoc}
-use Rattle.std.proofs.lemmas.Bool.{and_parts, eqb-true}
+use Rattle.std.proofs.lemmas.Bool.Decides.{nat_tests}
+use Rattle.std.proofs.lemmas.Grind.{common_steps}
 use Rattle.post.specs.declared.calls.Call.{Call}
 use Rattle.post.specs.declared.calls.Call.TheVariants.{Put, Take}
 use Rattle.post.specs.declared.calls.Reply.{Reply}
 use Rattle.post.specs.declared.answers.PostRefusal.{PostRefusal}
 use Rattle.post.specs.declared.pair.Pair.{Pair}
 use Rattle.post.specs.Calls.{said, answer_of, after_call, answers_of, after_calls, added, removed, all_added, all_removed, Conserved, Answered}
-use Rattle.post.specs.Mail.{Mail, joined, full, refused, no_such_board, serves, at_depth, oldest, with_row, put_answer, after_put, take_answer, after_take}
+use Rattle.post.specs.Mail.{Mail, put_answer, after_put, take_answer, after_take}
 
 module _ {V : Type 0} where
   answers_push : (m : Mail V) (cs : List (Call V)) (c : Call V) → answers_of m (cs ++ (c ∷ [])) ≡ answers_of m cs ++ (answer_of (after_calls m cs) c ∷ [])
@@ -19,41 +20,16 @@ module _ {V : Type 0} where
   after_push m [] c = refl
   after_push m (b ∷ cs) c = after_push (after_call m b) cs c
 
-  -- the row of a pair that is tested for
-  tested : (m : Mail V) (p q s r : ℕ) → (eqb p s && eqb q r) ≡ true → m.row p q ≡ m.row s r
-  tested m p q s r e = let parts = and_parts (eqb p s) (eqb q r) e in ap₂ m.row (eqb-true p s parts.0) (eqb-true q r parts.1)
-
   -- one call adds to its row's end and removes from its front
   conserved_put : (m : Mail V) (at : Pair) (v : V) (p q : ℕ) → (after_put m at.from at.to v).row p q ≡ m.row p q ++ added p q (Put at v) (put_answer m at.from at.to)
-  conserved_put m at v p q = go (serves m at.from at.to) (at_depth m at.from at.to)
-    where
-      joins : (t : Bool) → (t ≡ true → m.row p q ≡ m.row at.from at.to) → cond t (m.row at.from at.to ++ (v ∷ [])) (m.row p q) ≡ m.row p q ++ cond t (v ∷ []) []
-      joins true e = ap (λ l. l ++ (v ∷ [])) (sym (e refl))
-      joins false e = sym (append-nil (m.row p q))
-
-      go : (t u : Bool) → (cond t (cond u m (with_row m at.from at.to (m.row at.from at.to ++ (v ∷ [])))) m).row p q ≡ m.row p q ++ added p q (Put at v) (cond t (cond u full joined) (refused no_such_board))
-      go false u = sym (append-nil (m.row p q))
-      go true true = sym (append-nil (m.row p q))
-      go true false = joins (eqb p at.from && eqb q at.to) (tested m p q at.from at.to)
+  conserved_put m at v p q = grind (arith, common_steps, nat_tests, append-nil)
 
   conserved_take : (m : Mail V) (at : Pair) (p q : ℕ) → removed p q (Take at) (take_answer m at.from at.to) ++ (after_take m at.from at.to).row p q ≡ m.row p q
-  conserved_take m at p q = go (serves m at.from at.to)
+  conserved_take m at p q = go (m.row at.from at.to) refl
     where
-      oldest_first : (w : V) (ws : List V) (t : Bool) → (t ≡ true → m.row p q ≡ w ∷ ws) → cond t (w ∷ []) [] ++ cond t ws (m.row p q) ≡ m.row p q
-      oldest_first w ws true e = sym (e refl)
-      oldest_first w ws false e = refl
-
-      nothing : (t : Bool) → (t ≡ true → m.row p q ≡ []) → cond t [] (m.row p q) ≡ m.row p q
-      nothing true e = sym (e refl)
-      nothing false e = refl
-
-      leaves : (xs : List V) → ((eqb p at.from && eqb q at.to) ≡ true → m.row p q ≡ xs) → removed p q (Take at) (oldest xs) ++ cond (eqb p at.from && eqb q at.to) (drop 1 xs) (m.row p q) ≡ m.row p q
-      leaves [] e = nothing (eqb p at.from && eqb q at.to) e
-      leaves (w ∷ ws) e = oldest_first w ws (eqb p at.from && eqb q at.to) e
-
-      go : (t : Bool) → removed p q (Take at) (cond t (oldest (m.row at.from at.to)) (refused no_such_board)) ++ (cond t (with_row m at.from at.to (drop 1 (m.row at.from at.to))) m).row p q ≡ m.row p q
-      go false = refl
-      go true = leaves (m.row at.from at.to) (tested m p q at.from at.to)
+      go : (xs : List V) → m.row at.from at.to ≡ xs → removed p q (Take at) (take_answer m at.from at.to) ++ (after_take m at.from at.to).row p q ≡ m.row p q
+      go [] e = grind (arith, common_steps, nat_tests)
+      go (w ∷ ws) e = grind (arith, common_steps, nat_tests)
 
   conserved_call : (m : Mail V) (c : Call V) (p q : ℕ) → removed p q c (answer_of m c) ++ (after_call m c).row p q ≡ m.row p q ++ added p q c (answer_of m c)
   conserved_call m (Put at v) p q = conserved_put m at v p q
