@@ -1,5 +1,5 @@
 //! Lanes: a post that keeps one ring of letters for every ordered pair, over a lent slice.
-ghost use Rattle.std.specs.Prelude.{◌≡◌, ◌+◌, ◌-◌, ◌*◌, ◌<◌, ◌≤◌, length, if◌then◌else◌, cond, ◌&&◌, nat_lt, Ok, Err};
+ghost use Rattle.std.specs.Prelude.{◌≡◌, ◌+◌, ◌-◌, ◌*◌, ◌<◌, ◌≤◌, length, if◌then◌else◌, nat_lt};
 ghost use Rattle.lanes.specs.Lanes.{Within, Placed, lanes_mail};
 ghost use Rattle.post.specs.Made.{board_count, depth_for};
 ghost use Rattle.post.specs.Mail.{empty_post};
