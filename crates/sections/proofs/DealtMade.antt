@@ -4,9 +4,10 @@ use Rattle.std.proofs.lemmas.List.{length-map, take_more_set, map_more, take_all
 use Rattle.nest.specs.declared.terms.Array.{Array}
 use Rattle.nest.specs.declared.terms.Grid.{Grid}
 use Rattle.owner_map.specs.Meaning.{Deal}
-use Rattle.sections.specs.Holdings.{OverGrid, PartsBegin, PartsLow}
+use Rattle.sections.specs.declared.map_table.MapTable.{MapTable}
+use Rattle.sections.specs.Holdings.{Startable}
+use Rattle.sections.specs.MapTables.{tabled}
 use Rattle.sections.specs.Sections.{EachSound, Deals, Fits, dealt}
-use Rattle.sections.specs.Starts.{Begun}
 use Rattle.sections.proofs.NestRoom.{Room}
 use Rattle.sections.proofs.PartStarts.{part_room}
 
@@ -24,21 +25,15 @@ module _ {X Y : Type 0} (f : X → Deal) (h : Y → Deal) where
   pub tables_all : (xs : List X) (ys : List Y) (n : ℕ) → n ≡ length ys → map f (take n xs) ≡ map h (take n ys) → map f (take (length ys) xs) ≡ map h ys
   tables_all xs ys n end so = subst (λ m. map f (take m xs) ≡ map h (take m ys)) end so ∙ ap (map h) (take_all (length ys) ys (omega arith))
 
--- what fitting deals keep, with their table of starts
-abbrev pub Kept : Grid → Deals → List ℕ → Type 0
-Kept grid deals starts = OverGrid grid deals × PartsBegin grid deals starts × PartsLow grid deals
-
-pub kept_of : (grid : Grid) (arrays : List Array) (deals : Deals) (starts : List ℕ) → Fits grid arrays deals → EachSound deals → Room grid arrays → Begun grid deals starts → Kept grid deals starts
-kept_of grid arrays deals starts fit sound room begun = (
+-- where the parts of fitting deals begin can be worked out
+startable : (grid : Grid) (arrays : List Array) (deals : Deals) → Fits grid arrays deals → EachSound deals → Room grid arrays → Startable grid deals
+startable grid arrays deals fit sound room = (
+  room.boards,
+  omega (arith, fit.0, room.few),
+  omega (arith, fit.0, fit.1),
   λ t on. let there : t < length arrays = omega (arith, fit.0) in ((fit.2 t there).0.0, (fit.2 t there).1.0),
-  λ p t h. begun p t h.0 h.1,
   λ p t h. omega (arith, part_room grid arrays deals fit sound p t h.0 h.1, room.elements),
 )
-
--- the tables mean what the maps mean
-pub deals_same : {X Y Z : Type 0} (f : X → Deal) (h : Y → Deal) (k : Z → Deal) (rows columns : List X) (ys : List Y) (zs : List Z) → length ys ≡ length zs → map f (take (length ys) rows) ≡ map h ys → map f (take (length zs) columns) ≡ map k zs
-    → dealt (map f (take (length ys) rows)) (map f (take (length ys) columns)) ≡ dealt (map h ys) (map k zs)
-deals_same f h k rows columns ys zs even r c = ap₂ dealt r (ap (λ n. map f (take n columns)) even ∙ c)
 
 -- as many maps as arrays
 module _ {X Y : Type 0} (f : X → Deal) (h : Y → Deal) (grid : Grid) (arrays : List Array) (xs : List X) (ys : List Y) (fit : Fits grid arrays (dealt (map f xs) (map h ys))) (room : Room grid arrays) where
@@ -48,5 +43,15 @@ module _ {X Y : Type 0} (f : X → Deal) (h : Y → Deal) (grid : Grid) (arrays 
   pub columns_count : (1 ≤ length ys) × (length ys ≤ 4)
   columns_count = (omega (arith, room.some, fit.1, length-map ys h), omega (arith, room.few, fit.1, length-map ys h))
 
-  pub counts_even : length xs ≡ length ys
+  counts_even : length xs ≡ length ys
   counts_even = omega (arith, fit.0, fit.1, length-map xs f, length-map ys h)
+
+  -- their tables mean what they mean
+  module _ (rows columns : List MapTable) (same_rows : map tabled (take (length xs) rows) ≡ map f xs) (same_columns : map tabled (take (length ys) columns) ≡ map h ys) where
+    pub deals_same : dealt (map tabled (take (length xs) rows)) (map tabled (take (length xs) columns)) ≡ dealt (map f xs) (map h ys)
+    deals_same = ap₂ dealt same_rows (ap (λ n. map tabled (take n columns)) counts_even ∙ same_columns)
+
+    pub tables_startable : (over : Grid) → over ≡ grid → EachSound (dealt (map f xs) (map h ys)) → Startable over (dealt (map tabled (take (length xs) rows)) (map tabled (take (length xs) columns)))
+    tables_startable over is sound =
+        subst (λ g. Startable g (dealt (map tabled (take (length xs) rows)) (map tabled (take (length xs) columns)))) (sym is)
+        (subst (Startable grid) (sym deals_same) (startable grid arrays (dealt (map f xs) (map h ys)) fit sound room))

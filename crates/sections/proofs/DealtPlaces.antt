@@ -1,6 +1,6 @@
 -- The place of an element that is dealt out.
-use Rattle.std.proofs.Common.{◌≡◌, ℕ, ◌+◌, ◌*◌, ◌/◌, ◌%◌, ◌<◌, ◌≤◌, List, map, length, get_or, take, sym, ap, ◌∙◌, subst, ap₂, arith}
-use Rattle.std.proofs.lemmas.List.{length-map, length-take-le, get_or-take, get_or-map}
+use Rattle.std.proofs.Common.{◌≡◌, ℕ, ◌+◌, ◌*◌, ◌/◌, ◌%◌, ◌<◌, List, length, get_or, take, sym, ap, ◌∙◌, subst, ap₂, arith}
+use Rattle.std.proofs.lemmas.List.{length-map, length-take-le}
 use Rattle.nest.specs.declared.terms.Array.{Array}
 use Rattle.nest.specs.declared.terms.Grid.{Grid}
 use Rattle.layout.specs.Places.{IsElement}
@@ -11,17 +11,9 @@ use Rattle.sections.specs.declared.dealt.Dealt.{Dealt}
 use Rattle.sections.specs.declared.map_table.MapTable.{MapTable}
 use Rattle.sections.specs.Dealings.{deals_of}
 use Rattle.sections.specs.MapTables.{tabled}
-use Rattle.sections.specs.Sections.{EachSound, Deals, Fits, undealt, rows_of, columns_of, board_of, part_at, part_size, section_of}
+use Rattle.sections.specs.Sections.{EachSound, Deals, Fits, rows_of, columns_of, board_of, part_at, part_size, section_of}
 use Rattle.sections.proofs.Cells.{board_below, cell_below}
 use Rattle.sections.proofs.MapsFit.{maps_sound}
-
--- the first n maps of a longer row
-module _ {X : Type 0} (f : X → Deal) (xs : List X) (n : ℕ) (room : n ≤ length xs) where
-  pub count_is : length (map f (take n xs)) ≡ n
-  count_is = length-map (take n xs) f ∙ length-take-le n xs room
-
-  pub met : (t : ℕ) (x : X) → t < n → f (get_or xs t x) ≡ get_or (map f (take n xs)) t undealt
-  met t x on = ap f (sym (get_or-take n xs t x on)) ∙ sym (get_or-map f (take n xs) t x undealt (omega (arith, length-take-le n xs room)))
 
 module _ (grid : Grid) (deals : Deals) (t x y : ℕ) (R C : Deal) (R-is : R ≡ rows_of deals t) (C-is : C ≡ columns_of deals t) (on : t < length deals.rows) (sr : Sound R) (sc : Sound C) (over : OverGrid grid deals) (px : Position R x) (py : Position C y) where
   pub element : DealtElement deals t x y
@@ -66,34 +58,27 @@ module _ (grid : Grid) (deals : Deals) (t x y : ℕ) (R C : Deal) (R-is : R ≡ 
           let size : share R ((owner R x + q * owner C y) % q) * share C ((owner R x + q * owner C y) / q) ≡ part_size q deals (o + q * p) t = ap₂ (λ d e. share d ((owner R x + q * owner C y) % q) * share e ((owner R x + q * owner C y) / q)) R-is C-is ∙ ap (λ b. part_size q deals b t) (sym same_board) in
           omega (arith, cell_is, cell_below R C q grid.columns sr sc high wide x y px py)
 
+-- there are at most four arrays
+pub array_few : (d : Dealt) (t : ℕ) → t < length (deals_of d).rows → t < 4
+array_few d t on = omega (arith, length-map (take d.count d.rows) tabled, length-take-le d.count d.rows (omega arith))
+
 -- what the written answers of array t say
-module _ (d : Dealt) (t : ℕ) where
-  pub counted : length (deals_of d).rows ≡ d.count
-  counted = count_is tabled d.rows d.count (omega arith)
+module _ (d : Dealt) (t x y : ℕ) (r c : MapTable) (on : (t < length (deals_of d).rows) × (tabled r ≡ rows_of (deals_of d) t)) (beside : tabled c ≡ columns_of (deals_of d) t) (o n p m : ℕ) (row : Position (tabled r) x × ((o, n) ≡ place (tabled r) x)) (column : Position (tabled c) y × ((p, m) ≡ place (tabled c) y)) where
+  pub is_element : DealtElement (deals_of d) t x y
+  is_element = element d.grid (deals_of d) t x y (tabled r) (tabled c) on.1 beside on.0 r.sound c.sound d.over row.0 column.0
 
-  module _ (a b : MapTable) (on : t < d.count) where
-    pub on_rows : tabled (get_or d.rows t a) ≡ rows_of (deals_of d) t
-    on_rows = met tabled d.rows d.count (omega arith) t a on
+  pub on_board : o + d.grid.rows * p ≡ board_of d.grid.rows (deals_of d) t x y
+  on_board = board_is d.grid (deals_of d) t x y (tabled r) (tabled c) on.1 beside on.0 r.sound c.sound d.over row.0 column.0 o n p m (ap (λ z. z.0) row.1) (ap (λ z. z.1) row.1) (ap (λ z. z.0) column.1) (ap (λ z. z.1) column.1)
 
-    pub on_columns : tabled (get_or d.columns t b) ≡ columns_of (deals_of d) t
-    on_columns = met tabled d.columns d.count (omega arith) t b on
+  pub few_boards : o + d.grid.rows * p < 8
+  few_boards = omega (arith, board_low d.grid (deals_of d) t x y (tabled r) (tabled c) on.1 beside on.0 r.sound c.sound d.over row.0 column.0 o n p m (ap (λ z. z.0) row.1) (ap (λ z. z.1) row.1) (ap (λ z. z.0) column.1) (ap (λ z. z.1) column.1), d.boards)
 
-    module _ (x y : ℕ) (px : Position (tabled (get_or d.rows t a)) x) (py : Position (tabled (get_or d.columns t b)) y) where
-      pub is_element : DealtElement (deals_of d) t x y
-      is_element = element d.grid (deals_of d) t x y (tabled (get_or d.rows t a)) (tabled (get_or d.columns t b)) on_rows on_columns (omega (arith, counted)) (get_or d.rows t a).sound (get_or d.columns t b).sound d.over px py
+  module _ (w : ℕ) (is : w ≡ share (tabled c) p) where
+    pub on_place : get_or d.starts ((o + d.grid.rows * p) * 4 + t) 0 + n * w + m ≡ section_of d.grid.rows (deals_of d) t x y
+    on_place = found d.grid (deals_of d) t x y (tabled r) (tabled c) on.1 beside on.0 r.sound c.sound d.over row.0 column.0 o n p m (ap (λ z. z.0) row.1) (ap (λ z. z.1) row.1) (ap (λ z. z.0) column.1) (ap (λ z. z.1) column.1) d.starts d.begun w is
 
-      module _ (o n p m : ℕ) (at_row : (o, n) ≡ place (tabled (get_or d.rows t a)) x) (at-column : (p, m) ≡ place (tabled (get_or d.columns t b)) y) where
-        pub on_board : o + d.grid.rows * p ≡ board_of d.grid.rows (deals_of d) t x y
-        on_board = board_is d.grid (deals_of d) t x y (tabled (get_or d.rows t a)) (tabled (get_or d.columns t b)) on_rows on_columns (omega (arith, counted)) (get_or d.rows t a).sound (get_or d.columns t b).sound d.over px py o n p m (ap (λ z. z.0) at_row) (ap (λ z. z.1) at_row) (ap (λ z. z.0) at-column) (ap (λ z. z.1) at-column)
-
-        pub few_boards : o + d.grid.rows * p < 8
-        few_boards = omega (arith, board_low d.grid (deals_of d) t x y (tabled (get_or d.rows t a)) (tabled (get_or d.columns t b)) on_rows on_columns (omega (arith, counted)) (get_or d.rows t a).sound (get_or d.columns t b).sound d.over px py o n p m (ap (λ z. z.0) at_row) (ap (λ z. z.1) at_row) (ap (λ z. z.0) at-column) (ap (λ z. z.1) at-column), d.boards)
-
-        pub on_place : (w : ℕ) → w ≡ share (tabled (get_or d.columns t b)) p → get_or d.starts ((o + d.grid.rows * p) * 4 + t) 0 + n * w + m ≡ section_of d.grid.rows (deals_of d) t x y
-        on_place w is = found d.grid (deals_of d) t x y (tabled (get_or d.rows t a)) (tabled (get_or d.columns t b)) on_rows on_columns (omega (arith, counted)) (get_or d.rows t a).sound (get_or d.columns t b).sound d.over px py o n p m (ap (λ z. z.0) at_row) (ap (λ z. z.1) at_row) (ap (λ z. z.0) at-column) (ap (λ z. z.1) at-column) d.starts d.begun w is
-
-        pub place_low : (w : ℕ) → w ≡ share (tabled (get_or d.columns t b)) p → get_or d.starts ((o + d.grid.rows * p) * 4 + t) 0 + n * w + m < 4096
-        place_low w is = found_low d.grid (deals_of d) t x y (tabled (get_or d.rows t a)) (tabled (get_or d.columns t b)) on_rows on_columns (omega (arith, counted)) (get_or d.rows t a).sound (get_or d.columns t b).sound d.over px py o n p m (ap (λ z. z.0) at_row) (ap (λ z. z.1) at_row) (ap (λ z. z.0) at-column) (ap (λ z. z.1) at-column) d.starts d.begun w is d.low
+    pub place_low : get_or d.starts ((o + d.grid.rows * p) * 4 + t) 0 + n * w + m < 4096
+    place_low = found_low d.grid (deals_of d) t x y (tabled r) (tabled c) on.1 beside on.0 r.sound c.sound d.over row.0 column.0 o n p m (ap (λ z. z.0) row.1) (ap (λ z. z.1) row.1) (ap (λ z. z.0) column.1) (ap (λ z. z.1) column.1) d.starts d.begun w is d.low
 
 pub dealt_sound : (d : Dealt) → EachSound (deals_of d)
 dealt_sound d = maps_sound tabled tabled (λ m. m.sound) (λ m. m.sound) (take d.count d.rows) (take d.count d.columns)

@@ -1,11 +1,12 @@
 -- Whether maps fit a nest, array by array.
-use Rattle.std.proofs.Common.{◌≡◌, ℕ, zero, suc, ◌+◌, ◌<◌, ◌⊎◌, List, [], ◌∷◌, map, length, get_or, sym, ap, ◌∙◌, subst, ⊎_elim, arith, below_more}
+use Rattle.std.proofs.Common.{◌≡◌, ℕ, zero, suc, ◌<◌, ◌⊎◌, Bool, true, false, MatchBool, List, [], ◌∷◌, map, length, get_or, sym, ap, ◌∙◌, subst, ⊎_elim, arith}
+use Rattle.std.specs.List.{AllWithin, HoldsAt, zip}
 use Rattle.std.proofs.lemmas.List.{length-map, get_or-map}
 use Rattle.nest.specs.declared.terms.Array.{Array}
 use Rattle.nest.specs.declared.terms.Grid.{Grid}
 use Rattle.layout.specs.Places.{array_at}
 use Rattle.owner_map.specs.Meaning.{Deal, Sound}
-use Rattle.sections.specs.Sections.{EachSound, Deals, DealsOut, Fits, dealt, undealt, rows_of, columns_of}
+use Rattle.sections.specs.Sections.{EachSound, Deals, DealsOut, Fits, dealt, undealt}
 
 -- the deal of the map at t
 pub meant : {X : Type 0} (f : X → Deal) (xs : List X) (t : ℕ) (x : X) → t < length xs → x ≡ get_or xs t x → f x ≡ get_or (map f xs) t undealt
@@ -14,37 +15,48 @@ meant f xs t x h e = ap f e ∙ sym (get_or-map f xs t x undealt h)
 pub fits_like : (grid grid' : Grid) (arrays arrays' : List Array) (deals : Deals) → grid ≡ grid' → arrays ≡ arrays' → Fits grid arrays deals → Fits grid' arrays' deals
 fits_like grid grid' arrays arrays' deals g a fit = subst (λ h. Fits h arrays' deals) g (subst (λ b. Fits grid b deals) a fit)
 
--- the deals of the arrays below t fit
-abbrev pub FitsBelow : Grid → List Array → Deals → ℕ → Type 0
-FitsBelow grid arrays deals t =
-    (u : ℕ) → u < t → DealsOut (rows_of deals u) grid.rows (array_at arrays u).rows × DealsOut (columns_of deals u) grid.columns (array_at arrays u).columns
+-- the same answer, with the grid and the arrays in other words
+pub answer_like : (grid grid' : Grid) (arrays arrays' : List Array) (deals : Deals) (r : Bool) → grid ≡ grid' → arrays ≡ arrays' → MatchBool r (Fits grid arrays deals) (Fits grid arrays deals → ⊥) → MatchBool r (Fits grid' arrays' deals) (Fits grid' arrays' deals → ⊥)
+answer_like grid grid' arrays arrays' deals r g a m =
+    subst (λ h. MatchBool r (Fits h arrays' deals) (Fits h arrays' deals → ⊥)) g (subst (λ b. MatchBool r (Fits grid b deals) (Fits grid b deals → ⊥)) a m)
+
+-- as many maps as arrays, asked one by one beside them
+module _ {X : Type 0} (f : X → Deal) (boards : ℕ) (size : Array → ℕ) where
+  abbrev pub AllOut : List Array → List X → Type 0
+  AllOut arrays xs = AllWithin (λ (p : Array × X). DealsOut (f p.1) boards (size p.0)) (zip arrays xs) 0 (length (zip arrays xs))
+
+  abbrev pub SomeNot : List Array → List X → Type 0
+  SomeNot arrays xs = (k : ℕ) × (k < length (zip arrays xs)) × HoldsAt (λ (p : Array × X). DealsOut (f p.1) boards (size p.0) → ⊥) (zip arrays xs) k
+
+  abbrev pub EachOut : List Array → List X → Type 0
+  EachOut arrays xs = (t : ℕ) → t < length arrays → DealsOut (get_or (map f xs) t undealt) boards (size (array_at arrays t))
+
+  each_out : (arrays : List Array) (xs : List X) → length xs ≡ length arrays → AllOut arrays xs → EachOut arrays xs
+  each_out [] xs even all t on = absurd (omega arith)
+  each_out (a ∷ arrays) [] even all t on = absurd (omega arith)
+  each_out (a ∷ arrays) (x ∷ xs) even all zero on = all 0 (a, x) (omega arith) (omega arith)
+  each_out (a ∷ arrays) (x ∷ xs) even all (suc t) on =
+      each_out arrays xs (omega arith) (λ k d low high. all (suc k) d (omega arith) (omega arith)) t (omega arith)
+
+  none_out : (arrays : List Array) (xs : List X) → length xs ≡ length arrays → (k : ℕ) → k < length (zip arrays xs) → HoldsAt (λ (p : Array × X). DealsOut (f p.1) boards (size p.0) → ⊥) (zip arrays xs) k → EachOut arrays xs → ⊥
+  none_out [] xs even k on off each = omega arith
+  none_out (a ∷ arrays) [] even k on off each = omega arith
+  none_out (a ∷ arrays) (x ∷ xs) even zero on off each = off (a, x) (each 0 (omega arith))
+  none_out (a ∷ arrays) (x ∷ xs) even (suc k) on off each =
+      none_out arrays xs (omega arith) k (omega arith) (λ d. off d) (λ t l. each (suc t) (omega arith))
 
 module _ {X Y : Type 0} (f : X → Deal) (h : Y → Deal) (grid : Grid) (arrays : List Array) (xs : List X) (ys : List Y) where
   pub unfit_number : (length xs ≡ length arrays → ⊥) ⊎ ((length xs ≡ length arrays) × (length ys ≡ length arrays → ⊥)) → Fits grid arrays (dealt (map f xs) (map h ys)) → ⊥
   unfit_number off fit = ⊎_elim (λ n. n (sym (length-map xs f) ∙ fit.0)) (λ n. n.1 (sym (length-map ys h) ∙ fit.1)) off
 
-  module _ (t : ℕ) (on : t < length arrays) where
-    pub unfit_rows : (x : X) → x ≡ get_or xs t x → (DealsOut (f x) grid.rows (array_at arrays t).rows → ⊥) → Fits grid arrays (dealt (map f xs) (map h ys)) → ⊥
-    unfit_rows x e off fit =
-        let is = meant f xs t x (omega (arith, fit.0, length-map xs f)) e in
-        off (subst (λ d. DealsOut d grid.rows (array_at arrays t).rows) (sym is) (fit.2 t on).0)
+  pub unfit_rows : length xs ≡ length arrays → SomeNot f grid.rows (λ a. a.rows) arrays xs → Fits grid arrays (dealt (map f xs) (map h ys)) → ⊥
+  unfit_rows lx off fit = none_out f grid.rows (λ a. a.rows) arrays xs lx off.0 off.1 off.2 (λ t on. (fit.2 t on).0)
 
-    pub unfit_columns : (y : Y) → y ≡ get_or ys t y → (DealsOut (h y) grid.columns (array_at arrays t).columns → ⊥) → Fits grid arrays (dealt (map f xs) (map h ys)) → ⊥
-    unfit_columns y e off fit =
-        let is = meant h ys t y (omega (arith, fit.1, length-map ys h)) e in
-        off (subst (λ d. DealsOut d grid.columns (array_at arrays t).columns) (sym is) (fit.2 t on).1)
-
-    pub fits_more : (x : X) (y : Y) → length xs ≡ length arrays → length ys ≡ length arrays → x ≡ get_or xs t x → y ≡ get_or ys t y
-        → DealsOut (f x) grid.rows (array_at arrays t).rows → DealsOut (h y) grid.columns (array_at arrays t).columns
-        → FitsBelow grid arrays (dealt (map f xs) (map h ys)) t → FitsBelow grid arrays (dealt (map f xs) (map h ys)) (t + 1)
-    fits_more x y lx ly ex ey fx fy so =
-        below_more _ t so (
-          subst (λ d. DealsOut d grid.rows (array_at arrays t).rows) (meant f xs t x (omega arith) ex) fx,
-          subst (λ d. DealsOut d grid.columns (array_at arrays t).columns) (meant h ys t y (omega arith) ey) fy,
-        )
-
-  pub fits_all : length xs ≡ length arrays → length ys ≡ length arrays → (t : ℕ) → t ≡ length arrays → FitsBelow grid arrays (dealt (map f xs) (map h ys)) t → Fits grid arrays (dealt (map f xs) (map h ys))
-  fits_all lx ly t end so = (length-map xs f ∙ lx, length-map ys h ∙ ly, λ u l. so u (omega arith))
+  pub fit_columns : length xs ≡ length arrays → length ys ≡ length arrays → AllOut f grid.rows (λ a. a.rows) arrays xs
+      → (r : Bool) → MatchBool r (AllOut h grid.columns (λ a. a.columns) arrays ys) (SomeNot h grid.columns (λ a. a.columns) arrays ys)
+      → MatchBool r (Fits grid arrays (dealt (map f xs) (map h ys))) (Fits grid arrays (dealt (map f xs) (map h ys)) → ⊥)
+  fit_columns lx ly rows true columns = (length-map xs f ∙ lx, length-map ys h ∙ ly, λ t on. (each_out f grid.rows (λ a. a.rows) arrays xs lx rows t on, each_out h grid.columns (λ a. a.columns) arrays ys ly columns t on))
+  fit_columns lx ly rows false columns = λ fit. none_out h grid.columns (λ a. a.columns) arrays ys ly columns.0 columns.1 columns.2 (λ t on. (fit.2 t on).1)
 
 -- what maps mean is sound
 sound_at : {X : Type 0} (f : X → Deal) → ((x : X) → Sound (f x)) → (xs : List X) (t : ℕ) → t < length (map f xs) → Sound (get_or (map f xs) t undealt)

@@ -1,16 +1,18 @@
 -- The table of starts, filled board by board and array by array.
 use Rattle.std.proofs.Common.{◌≡◌, ℕ, zero, suc, ◌+◌, ◌*◌, ◌/◌, ◌%◌, ◌<◌, ◌≤◌, ◌≢◌, List, map, length, get_or, set, sym, ap, ◌∙◌, subst, ap₂, ⊎_elim, mul_comm, zero-mul, arith, get_or-set_other, get_or-set_same}
 use Rattle.std.proofs.lemmas.Nat.{div_below, mod_below}
-use Rattle.std.proofs.lemmas.List.{length-map}
+use Rattle.std.proofs.lemmas.List.{length-map, get_or-map}
 use Rattle.std.proofs.lemmas.Bool.{cases_order}
 use Rattle.nest.specs.declared.terms.Array.{Array}
 use Rattle.nest.specs.declared.terms.Grid.{Grid}
 use Rattle.layout.specs.Places.{total}
-use Rattle.owner_map.specs.Meaning.{Deal, share, sum_over}
+use Rattle.owner_map.specs.Meaning.{share, sum_over}
 use Rattle.owner_map.specs.Deals.{sum_over_more}
-use Rattle.sections.specs.Sections.{EachSound, Deals, Fits, dealt, part_at, part_size, part_start, section_size, section_start}
+use Rattle.sections.specs.Sections.{EachSound, Deals, Fits, dealt, undealt, part_at, part_size, part_start, section_size, section_start}
+use Rattle.sections.specs.declared.map_table.MapTable.{MapTable}
+use Rattle.sections.specs.Holdings.{OverGrid, Part}
+use Rattle.sections.specs.MapTables.{tabled}
 use Rattle.sections.specs.Starts.{Begins}
-use Rattle.sections.proofs.MapsFit.{meant}
 use Rattle.sections.proofs.SectionPlaces.{sections_total}
 use Rattle.sections.proofs.Sums.{sum_grows}
 
@@ -65,23 +67,31 @@ rows_some zero c p h = absurd (omega (arith, zero-mul c))
 rows_some (suc r) c p h = omega arith
 
 -- what the maps of array t answer for board p
-module _ {X Y : Type 0} (f : X → Deal) (h : Y → Deal) (grid : Grid) (arrays : List Array) (xs : List X) (ys : List Y) (fit : Fits grid arrays (dealt (map f xs) (map h ys))) (p t : ℕ) (on : t < length xs) where
-  pub there : t < length arrays
-  there = omega (arith, fit.0, length-map xs f)
+module _ (grid : Grid) (rows columns : List MapTable) (even : length (map tabled columns) ≡ length (map tabled rows)) (over : OverGrid grid (dealt (map tabled rows) (map tabled columns))) (p t : ℕ) (on : t < length rows) (l : p < grid.rows * grid.columns) where
+  pub there : t < length columns
+  there = omega (arith, length-map rows tabled, length-map columns tabled)
 
-  pub there_too : t < length ys
-  there_too = omega (arith, there, fit.1, length-map ys h)
+  pub part_there : Part grid (dealt (map tabled rows) (map tabled columns)) p t
+  part_there = (l, omega (arith, length-map rows tabled))
 
-  pub row_board : (x : X) → x ≡ get_or xs t x → p < grid.rows * grid.columns → p % grid.rows < (f x).boards
-  row_board x e l =
-      let b : (f x).boards ≡ grid.rows = ap (λ d. d.boards) (meant f xs t x on e) ∙ (fit.2 t there).0.0 in
-      omega (arith, mod_below p grid.rows (rows_some grid.rows grid.columns p l))
+  module _ (a : MapTable) where
+    rows_are : tabled (get_or rows t a) ≡ get_or (map tabled rows) t undealt
+    rows_are = sym (get_or-map tabled rows t a undealt on)
 
-  pub column_board : (y : Y) → y ≡ get_or ys t y → p < grid.rows * grid.columns → p / grid.rows < (h y).boards
-  column_board y e l =
-      let b : (h y).boards ≡ grid.columns = ap (λ d. d.boards) (meant h ys t y there_too e) ∙ (fit.2 t there).1.0 in
-      omega (arith, div_below p grid.rows grid.columns (rows_some grid.rows grid.columns p l) (omega (arith, mul_comm grid.rows grid.columns)))
+    columns_are : tabled (get_or columns t a) ≡ get_or (map tabled columns) t undealt
+    columns_are = sym (get_or-map tabled columns t a undealt there)
 
-  pub size_is : (x : X) (y : Y) (m n : ℕ) → x ≡ get_or xs t x → y ≡ get_or ys t y → m ≡ share (f x) (p % grid.rows) → n ≡ share (h y) (p / grid.rows) → m * n ≡ part_size grid.rows (dealt (map f xs) (map h ys)) p t
-  size_is x y m n ex ey em en =
-      ap₂ (λ a b. a * b) (em ∙ ap (λ d. share d (p % grid.rows)) (meant f xs t x on ex)) (en ∙ ap (λ d. share d (p / grid.rows)) (meant h ys t y there_too ey))
+    pub row_board : p % grid.rows < (tabled (get_or rows t a)).boards
+    row_board =
+        let b : (tabled (get_or rows t a)).boards ≡ grid.rows = ap (λ d. d.boards) rows_are ∙ (over t part_there.1).0 in
+        omega (arith, mod_below p grid.rows (rows_some grid.rows grid.columns p l))
+
+    pub column_board : p / grid.rows < (tabled (get_or columns t a)).boards
+    column_board =
+        let b : (tabled (get_or columns t a)).boards ≡ grid.columns = ap (λ d. d.boards) columns_are ∙ (over t part_there.1).1 in
+        omega (arith, div_below p grid.rows grid.columns (rows_some grid.rows grid.columns p l) (omega (arith, mul_comm grid.rows grid.columns)))
+
+  pub size_is : (a b : MapTable) (m n : ℕ) → m ≡ share (tabled (get_or rows t a)) (p % grid.rows) → n ≡ share (tabled (get_or columns t b)) (p / grid.rows)
+      → m * n ≡ part_size grid.rows (dealt (map tabled rows) (map tabled columns)) p t
+  size_is a b m n em en =
+      ap₂ (λ a b. a * b) (em ∙ ap (λ d. share d (p % grid.rows)) (rows_are a)) (en ∙ ap (λ d. share d (p / grid.rows)) (columns_are b))

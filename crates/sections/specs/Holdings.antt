@@ -30,3 +30,8 @@ PartsBegin grid deals starts = (p t : ℕ) → Part grid deals p t → Begins gr
 -- every part ends in a buffer of 4,096 places
 abbrev pub PartsLow : Grid → Deals → Type 0
 PartsLow grid deals = (p t : ℕ) → Part grid deals p t → part_at grid.rows deals p t + part_size grid.rows deals p t ≤ 4096
+
+-- where the parts begin can be worked out: the deals are those of few arrays over a small grid, and every part is low
+abbrev pub Startable : Grid → Deals → Type 0
+Startable grid deals =
+    (grid.rows * grid.columns ≤ 8) × (length deals.rows ≤ 4) × (length deals.columns ≡ length deals.rows) × OverGrid grid deals × PartsLow grid deals

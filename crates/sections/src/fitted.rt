@@ -58,7 +58,7 @@ impl<'a> Fitted<'a> {
         ensures map { MatchOption result (length self.now.nest.arrays ≤ array) (λ m. tabled m.now ≡ rows_of self.now.deals array) }
         ensures fitted { IsFitted self.now }
     {
-        self.dealt.row_maps().get(array)
+        self.dealt.row_map(array)
     }
 
     /// The map of the columns of an array, or none if there is no such array.
@@ -66,6 +66,6 @@ impl<'a> Fitted<'a> {
         ensures map { MatchOption result (length self.now.nest.arrays ≤ array) (λ m. tabled m.now ≡ columns_of self.now.deals array) }
         ensures fitted { IsFitted self.now }
     {
-        self.dealt.column_maps().get(array)
+        self.dealt.column_map(array)
     }
 }

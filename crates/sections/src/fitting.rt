@@ -17,18 +17,13 @@ fn deals_out<M: OwnerMap>(map: &M, boards: usize, size: usize) -> bool
 pub fn maps_fit<R: OwnerMap, C: OwnerMap>(nest: &Nest, row_maps: &[R], column_maps: &[C]) -> bool
     ensures { MatchBool result (Fits (shown nest.now).grid (shown nest.now).arrays (dealt (map R.OwnerMap.meaning row_maps.now) (map C.OwnerMap.meaning column_maps.now))) (Fits (shown nest.now).grid (shown nest.now).arrays (dealt (map R.OwnerMap.meaning row_maps.now) (map C.OwnerMap.meaning column_maps.now)) → ⊥) }
 {
+    let grid = nest.grid();
     let arrays = nest.arrays();
     if row_maps.len() != arrays.len() || column_maps.len() != arrays.len() {
         return false;
     }
-    let grid = nest.grid();
-    for (t, array) in arrays.iter().enumerate() {
-        if !deals_out(&row_maps[t], grid.rows, array.rows) {
-            return false;
-        }
-        if !deals_out(&column_maps[t], grid.columns, array.columns) {
-            return false;
-        }
-    }
-    true
+    let mut by_rows = arrays.iter().zip(row_maps);
+    let mut by_columns = arrays.iter().zip(column_maps);
+    by_rows.all(|(array, map)| deals_out(map, grid.rows, array.rows))
+        && by_columns.all(|(array, map)| deals_out(map, grid.columns, array.columns))
 }

@@ -1,23 +1,10 @@
 // A table of a map's answers is a map.
 ghost use Rattle.std.specs.Prelude.{◌≡◌, ◌<◌};
-ghost use Rattle.owner_map.specs.Meaning.{tally, share};
+ghost use Rattle.owner_map.specs.Meaning.{share};
 ghost use Rattle.sections.specs.MapTables.{tabled};
 
 use super::map_table::MapTable;
 use owner_map::{MOST_POSITIONS, OwnerMap, Refusal};
-
-/// How often a board stands in a row of owners.
-fn occurrences(row: &[u8], board: usize) -> usize
-    ensures { result ≡ tally board row.now }
-{
-    let mut seen = 0;
-    for owner in row {
-        if *owner as usize == board {
-            seen += 1;
-        }
-    }
-    seen
-}
 
 impl MapTable {
     /// How many positions a board of the map owns.
@@ -63,6 +50,7 @@ impl OwnerMap for MapTable {
         if board >= self.boards || bound < 1 || bound > self.size + 1 {
             return Err(Refusal::OutsideNumbers);
         }
-        Ok(occurrences(&self.owners[0..bound - 1], board))
+        let below = self.owners[..bound - 1].iter();
+        Ok(below.filter(|owner| **owner as usize == board).count())
     }
 }

@@ -7,6 +7,7 @@ use super::asked::{place_of, share_of};
 use super::map_table::{MOST_PLACES, MapTable};
 use super::starts::MOST_ARRAYS;
 use owner_map::{MOST_BOARDS, MOST_POSITIONS, OwnerMap};
+use std::array;
 
 /// The owners and the ranks of all positions, and the positions of all owners and ranks.
 fn written_places<M: OwnerMap>(
@@ -38,11 +39,14 @@ fn written_shares<M: OwnerMap>(map: &M) -> [u8; MOST_BOARDS]
     ensures shares { SharesIn (M.OwnerMap.meaning map.now) result }
     ensures room { length result ≡ 8 }
 {
-    let mut shares = [0; MOST_BOARDS];
-    for board in 0..map.boards() {
-        shares[board] = share_of(map, board) as u8;
-    }
-    shares
+    let boards = map.boards();
+    array::from_fn(|board| {
+        if board < boards {
+            share_of(map, board) as u8
+        } else {
+            0
+        }
+    })
 }
 
 impl MapTable {
@@ -71,10 +75,9 @@ pub(crate) fn tables_of<M: OwnerMap>(maps: &[M]) -> [MapTable; MOST_ARRAYS]
     ensures same { map tabled (take (length maps.now) result) ≡ map M.OwnerMap.meaning maps.now }
     ensures room { length result ≡ 4 }
 {
-    let first = MapTable::of(&maps[0]);
-    let mut tables = [first; MOST_ARRAYS];
-    for which in 0..maps.len() {
-        tables[which] = MapTable::of(&maps[which]);
+    let mut tables = [MapTable::of(&maps[0]); MOST_ARRAYS];
+    for (which, map) in maps.iter().enumerate() {
+        tables[which] = MapTable::of(map);
     }
     tables
 }
