@@ -28,7 +28,7 @@ module _ (R C : Deal) (q s : ℕ) (rows : Sound R) (columns : Sound C) (high : R
       omega (arith, turned x y, mul-add-lt (owner C y) q (owner R x) s (omega (arith, columns.4 y ony)) (omega (arith, rows.4 x onx)))
 
   -- how much of the array the board of an element has
-  pub part_of : (x y : ℕ) → Position R x → share R ((owner R x + q * owner C y) % q) * share C ((owner R x + q * owner C y) / q) ≡ share R (owner R x) * share C (owner C y)
+  part_of : (x y : ℕ) → Position R x → share R ((owner R x + q * owner C y) % q) * share C ((owner R x + q * owner C y) / q) ≡ share R (owner R x) * share C (owner C y)
   part_of x y on = ap₂ (λ a b. share R a * share C b) (board_row x y on) (board_column x y on)
 
   pub cell_below : (x y : ℕ) → Position R x → Position C y → rank R x * share C (owner C y) + rank C y < share R ((owner R x + q * owner C y) % q) * share C ((owner R x + q * owner C y) / q)

@@ -1,6 +1,6 @@
 -- What the written answers of fitting maps keep.
-use Rattle.std.proofs.Common.{◌≡◌, ℕ, ◌+◌, ◌<◌, ◌≤◌, List, [], ◌∷◌, ◌++◌, map, length, get_or, take, set, sym, ap, ◌∙◌, subst, ap₂, arith}
-use Rattle.std.proofs.lemmas.List.{length-map, take_more_set, map_more, take_all}
+use Rattle.std.proofs.Common.{◌≡◌, ◌<◌, ◌≤◌, List, map, length, take, sym, ap, ◌∙◌, subst, ap₂, arith}
+use Rattle.std.proofs.lemmas.List.{length-map}
 use Rattle.nest.specs.declared.terms.Array.{Array}
 use Rattle.nest.specs.declared.terms.Grid.{Grid}
 use Rattle.owner_map.specs.Meaning.{Deal}
@@ -10,20 +10,6 @@ use Rattle.sections.specs.MapTables.{tabled}
 use Rattle.sections.specs.Sections.{EachSound, Deals, Fits, dealt}
 use Rattle.sections.proofs.NestRoom.{Room}
 use Rattle.sections.proofs.PartStarts.{part_room}
-
-map_push : {X Y : Type 0} (f : X → Y) (xs : List X) (x : X) → map f (xs ++ x ∷ []) ≡ map f xs ++ f x ∷ []
-map_push f [] x = λ i. f x ∷ []
-map_push f (y ∷ xs) x = ap (λ l. f y ∷ l) (map_push f xs x)
-
--- one more table written
-module _ {X Y : Type 0} (f : X → Deal) (h : Y → Deal) where
-  pub tables_more : (xs : List X) (ys : List Y) (n : ℕ) (x : X) (y : Y) → n < length xs → n < length ys → y ≡ get_or ys n y → f x ≡ h y → map f (take n xs) ≡ map h (take n ys) → map f (take (n + 1) (set xs n x)) ≡ map h (take (n + 1) ys)
-  tables_more xs ys n x y on there is same so =
-      ap (map f) (take_more_set xs n x on) ∙ map_push f (take n xs) x ∙ ap₂ (λ l d. l ++ d ∷ []) so (same ∙ ap h is) ∙ sym (map_more h ys n y there)
-
-  -- all tables written
-  pub tables_all : (xs : List X) (ys : List Y) (n : ℕ) → n ≡ length ys → map f (take n xs) ≡ map h (take n ys) → map f (take (length ys) xs) ≡ map h ys
-  tables_all xs ys n end so = subst (λ m. map f (take m xs) ≡ map h (take m ys)) end so ∙ ap (map h) (take_all (length ys) ys (omega arith))
 
 -- where the parts of fitting deals begin can be worked out
 startable : (grid : Grid) (arrays : List Array) (deals : Deals) → Fits grid arrays deals → EachSound deals → Room grid arrays → Startable grid deals

@@ -50,7 +50,7 @@ module _ (grid : Grid) (deals : Deals) (t x y : ℕ) (R C : Deal) (R-is : R ≡ 
           let cell : rank R x * share C (owner C y) + rank C y ≡ rank (rows_of deals t) x * share (columns_of deals t) (owner (columns_of deals t) y) + rank (columns_of deals t) y = ap₂ (λ d e. rank d x * share e (owner e y) + rank e y) R-is C-is in
           omega (arith, cell_is)
 
-      pub found_low : PartsLow grid deals → get_or starts ((o + grid.rows * p) * 4 + t) 0 + n * w + m < 4096
+      found_low : PartsLow grid deals → get_or starts ((o + grid.rows * p) * 4 + t) 0 + n * w + m < 4096
       found_low low =
           let q : ℕ = grid.rows in
           let start = begun (o + q * p) t (board_low, on) in
@@ -90,7 +90,7 @@ element_dealt grid arrays deals fit t x y e =
     let f = fit.2 t h.0 in
     (omega (arith, fit.0), (h.1, omega arith), (h.3, omega arith))
 
-pub dealt_element : (grid : Grid) (arrays : List Array) (deals : Deals) → Fits grid arrays deals → (t x y : ℕ) → DealtElement deals t x y → IsElement arrays t x y
+dealt_element : (grid : Grid) (arrays : List Array) (deals : Deals) → Fits grid arrays deals → (t x y : ℕ) → DealtElement deals t x y → IsElement arrays t x y
 dealt_element grid arrays deals fit t x y e =
     let on : t < length arrays = omega (arith, fit.0) in
     let f = fit.2 t on in

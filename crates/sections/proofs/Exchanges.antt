@@ -1,11 +1,10 @@
 -- How scatter and gather undo each other.
-use Rattle.std.proofs.Common.{◌≡◌, ℕ, List, length, get_or, Ok, Err, Result, sym, ap, ◌∙◌, ⊎_elim, arith}
+use Rattle.std.proofs.Common.{◌≡◌, List, length, get_or, sym, ap, ◌∙◌, arith}
 use Rattle.std.proofs.lemmas.List.{same_lists}
 use Rattle.nest.specs.Terms.{Sheet}
 use Rattle.layout.specs.Places.{total}
 use Rattle.layout.proofs.PlaceLaws.{place_taken}
-use Rattle.sections.specs.declared.refusal.LayoutRefusal.{LayoutRefusal}
-use Rattle.sections.specs.Exchange.{SameElements, Long, Answered, ArraysBack, SectionsBack}
+use Rattle.sections.specs.Exchange.{SameElements, ArraysBack, SectionsBack}
 use Rattle.sections.specs.Sections.{EachSound, Deals, Fits}
 use Rattle.sections.proofs.SectionPlaces.{section_taken}
 
@@ -19,14 +18,3 @@ module _ {T : Type 0} (sheet : Sheet) (deals : Deals) (arrays sections : List T)
   sections_back fit sound long others l so =
       same_lists others sections l (λ k d h. let at = section_taken sheet.grid sheet.arrays deals fit sound k (omega arith) in
       ap (λ j. get_or others j d) (sym at.4) ∙ so at.0 at.1 at.2 d at.3 ∙ sym (same at.0 at.1 at.2 d at.3) ∙ ap (λ j. get_or sections j d) at.4)
-
-module _ {A : Type 0} (sheet : Sheet) (deals : Deals) (fit : Fits sheet.grid sheet.arrays deals) (n m : ℕ) (Moved Same : Type 0) where
-  -- with fitting maps and buffers nothing is refused
-  pub settled : (k l : ℕ) (Later Other : Type 0) → Long sheet n m → Long sheet k l → Later → (r : Result A LayoutRefusal) → Answered sheet deals n m Moved Same r → Answered sheet deals k l Later Other r
-  settled k l Later Other long other later (Ok a) p = (fit, other, later)
-  settled k l Later Other long other later (Err e) p = absurd (⊎_elim (λ d. d.1 fit) (λ d. d.2 long) p.0)
-
-  -- what holds of moved and of untouched buffers holds after the call
-  pub anyway : (Law : Type 0) → (Moved → Law) → (Same → Law) → (r : Result A LayoutRefusal) → Answered sheet deals n m Moved Same r → Law
-  anyway Law moved same (Ok a) p = moved p.2
-  anyway Law moved same (Err e) p = same p.1

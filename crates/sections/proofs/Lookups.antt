@@ -1,6 +1,6 @@
 -- A deal's answers, read from rows.
-use Rattle.std.proofs.Common.{◌≡◌, ℕ, ◌+◌, ◌-◌, ◌*◌, ◌<◌, ◌≤◌, List, length, get_or, take, count_by, ◌==◌, refl, Option, Result, Ok, Err, Some, None, unwrap_or, sym, ap, ◌∙◌, ⊎_elim, arith}
-use Rattle.std.proofs.lemmas.List.{length-take-le, get_or-take}
+use Rattle.std.proofs.Common.{◌≡◌, ℕ, ◌+◌, ◌*◌, ◌<◌, ◌≤◌, List, length, get_or, take, count_by, ◌==◌, refl, Option, Result, Ok, Err, Some, None, unwrap_or, sym, ap, ◌∙◌, ⊎_elim, arith}
+use Rattle.std.proofs.lemmas.List.{length-take-le}
 use Rattle.std.proofs.lemmas.List.Recursion.{is_count_by}
 use Rattle.std.proofs.lemmas.Bool.{cases_order}
 use Rattle.std.proofs.lemmas.Bool.Decides.{nat_tests}
@@ -8,28 +8,20 @@ use Rattle.std.specs.Result.{result_ok}
 use Rattle.owner_map.specs.declared.refusal.Refusal.{Refusal}
 use Rattle.owner_map.specs.Answer.{Placed, Found}
 use Rattle.owner_map.specs.Listed.{listed}
-use Rattle.owner_map.specs.Meaning.{Deal, Sound, Position, extent, owner, rank, share, tally, place, position}
+use Rattle.owner_map.specs.Meaning.{Deal, Sound, Position, extent, owner, share, tally, place, position}
 use Rattle.owner_map.specs.Deals.{below_le, some_below_share, none_past_share, position_undone}
-use Rattle.sections.specs.MapRows.{RanksIn, PositionsIn}
+use Rattle.sections.specs.MapRows.{PositionsIn}
 
 -- how far the written owners go
 pub extent_is : (boards size : ℕ) (owners : List ℕ) → size ≤ 32 → length owners ≡ 32 → extent (listed boards (take size owners)) ≡ size
 extent_is boards size owners fits room = length-take-le size owners (omega arith)
-
-pub placed : (boards size : ℕ) (owners ranks : List ℕ) → size ≤ 32 → length owners ≡ 32 → RanksIn (listed boards (take size owners)) ranks → (x : ℕ) → 1 ≤ x → x ≤ size
-    → Position (listed boards (take size owners)) x × (get_or owners (x - 1) 0 ≡ owner (listed boards (take size owners)) x) × (get_or ranks (x - 1) 0 ≡ rank (listed boards (take size owners)) x)
-placed boards size owners ranks fits room ranked x low high =
-    let d : Deal = listed boards (take size owners) in
-    let e = extent_is boards size owners fits room in
-    let back : x - 1 + 1 ≡ x = omega arith in
-    ((low, omega arith), sym (get_or-take size owners (x - 1) 0 (omega arith)), ranked (x - 1) (omega arith) ∙ ap (rank d) back)
 
 -- a share is no larger than the dimension
 pub share_small : (d : Deal) → Sound d → (b : ℕ) → share d b ≤ 32
 share_small d sound b = omega (arith, below_le d b (extent d + 1), sound.3)
 
 -- a board that the deal has not owns nothing
-pub stranger : (d : Deal) → Sound d → (b r : ℕ) → d.boards ≤ b → position d b r ≡ None
+stranger : (d : Deal) → Sound d → (b r : ℕ) → d.boards ≤ b → position d b r ≡ None
 stranger d sound b r out =
     ⊎_elim (λ same. none_past_share d b r (omega arith)) (⊎_elim (λ less. absurd (never less)) (λ more. none_past_share d b r (omega arith))) (cases_order r (share d b))
   where

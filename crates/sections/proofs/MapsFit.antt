@@ -1,5 +1,5 @@
 -- Whether maps fit a nest, array by array.
-use Rattle.std.proofs.Common.{◌≡◌, ℕ, zero, suc, ◌<◌, ◌⊎◌, Bool, true, false, MatchBool, List, [], ◌∷◌, map, length, get_or, sym, ap, ◌∙◌, subst, ⊎_elim, arith}
+use Rattle.std.proofs.Common.{◌≡◌, ℕ, zero, suc, ◌<◌, Bool, true, false, MatchBool, List, [], ◌∷◌, map, length, get_or, sym, ap, ◌∙◌, subst, arith}
 use Rattle.std.specs.List.{AllWithin, HoldsAt, zip}
 use Rattle.std.proofs.lemmas.List.{length-map, get_or-map}
 use Rattle.nest.specs.declared.terms.Array.{Array}
@@ -46,9 +46,6 @@ module _ {X : Type 0} (f : X → Deal) (boards : ℕ) (size : Array → ℕ) whe
       none_out arrays xs (omega arith) k (omega arith) (λ d. off d) (λ t l. each (suc t) (omega arith))
 
 module _ {X Y : Type 0} (f : X → Deal) (h : Y → Deal) (grid : Grid) (arrays : List Array) (xs : List X) (ys : List Y) where
-  pub unfit_number : (length xs ≡ length arrays → ⊥) ⊎ ((length xs ≡ length arrays) × (length ys ≡ length arrays → ⊥)) → Fits grid arrays (dealt (map f xs) (map h ys)) → ⊥
-  unfit_number off fit = ⊎_elim (λ n. n (sym (length-map xs f) ∙ fit.0)) (λ n. n.1 (sym (length-map ys h) ∙ fit.1)) off
-
   pub unfit_rows : length xs ≡ length arrays → SomeNot f grid.rows (λ a. a.rows) arrays xs → Fits grid arrays (dealt (map f xs) (map h ys)) → ⊥
   unfit_rows lx off fit = none_out f grid.rows (λ a. a.rows) arrays xs lx off.0 off.1 off.2 (λ t on. (fit.2 t on).0)
 

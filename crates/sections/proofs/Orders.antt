@@ -29,7 +29,7 @@ module _ {X : Type 0} (f : ℕ → List X) (size : ℕ → ℕ) (sized : (i : �
   length_joined a (suc n) =
       omega (arith, length-append (f a) (flat_map f (range_with_len (a + 1) n)), sized a, length_joined (a + 1) n, first_size a n)
 
-  pub joined_at : (a n i j : ℕ) (d : X) → i < n → j < size (a + i) → get_or (flat_map f (range_with_len a n)) (sum_over i (λ k. size (a + k)) + j) d ≡ get_or (f (a + i)) j d
+  joined_at : (a n i j : ℕ) (d : X) → i < n → j < size (a + i) → get_or (flat_map f (range_with_len a n)) (sum_over i (λ k. size (a + k)) + j) d ≡ get_or (f (a + i)) j d
   joined_at a zero i j d h l = absurd (omega arith)
   joined_at a (suc n) zero j d h l =
       let z : a ≡ a + 0 = omega arith in

@@ -43,7 +43,7 @@ pub sum_first : (f : ℕ → ℕ) (n : ℕ) → sum_over (suc n) f ≡ f 0 + sum
 sum_first f zero = omega arith
 sum_first f (suc n) = let ih = sum_first f n in omega arith
 
-pub sum_join : (f : ℕ → ℕ) (a b : ℕ) → sum_over (a + b) f ≡ sum_over a f + sum_over b (λ i. f (a + i))
+sum_join : (f : ℕ → ℕ) (a b : ℕ) → sum_over (a + b) f ≡ sum_over a f + sum_over b (λ i. f (a + i))
 sum_join f a zero = let e : a + 0 ≡ a = omega arith in let s = ap (λ m. sum_over m f) e in omega arith
 sum_join f a (suc b) =
     let e : a + suc b ≡ suc (a + b) = omega arith in

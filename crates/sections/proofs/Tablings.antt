@@ -1,8 +1,7 @@
 -- A deal's answers written into rows, position by position.
 use Rattle.std.proofs.Common.{◌≡◌, ℕ, ◌+◌, ◌-◌, ◌*◌, ◌<◌, ◌≢◌, List, [], ◌∷◌, ◌++◌, length, get_or, take, set, unwrap_or, sym, ap, ◌∙◌, subst, ap₂, arith, length-set, get_or-set_other, get_or-set_same, below_more}
 use Rattle.std.proofs.lemmas.List.{take_more, take_more_set, take_all}
-use Rattle.owner_map.specs.Listed.{listed}
-use Rattle.owner_map.specs.Meaning.{Deal, Sound, Position, extent, owner, rank, share}
+use Rattle.owner_map.specs.Meaning.{Deal, Sound, Position, extent, owner, rank}
 use Rattle.owner_map.specs.Deals.{place_determines, position_undone, some_below_share}
 use Rattle.sections.specs.MapRows.{OwnersIn, RanksIn, PositionsIn}
 use Rattle.sections.proofs.Cells.{rank_below}
@@ -27,7 +26,7 @@ module _ (d : Deal) (sound : Sound d) (n : ℕ) (on : n < extent d) where
   next : Position d (n + 1)
   next = (omega arith, omega arith)
 
-  pub cell_low : owner d (n + 1) * 32 + rank d (n + 1) < 256
+  cell_low : owner d (n + 1) * 32 + rank d (n + 1) < 256
   cell_low = omega (arith, owner_low d sound (n + 1) next, rank_low d sound (n + 1) next)
 
   apart : (k : ℕ) → k < n → owner d (k + 1) * 32 + rank d (k + 1) ≢ owner d (n + 1) * 32 + rank d (n + 1)
@@ -38,7 +37,7 @@ module _ (d : Deal) (sound : Sound d) (n : ℕ) (on : n < extent d) where
       let e : k + 1 ≡ n + 1 = place_determines d (k + 1) (n + 1) here next (λ i. (o i, r i)) in
       omega arith
 
-  pub places_more : (owners ranks positions : List ℕ) → PlacesTo d owners ranks positions n
+  places_more : (owners ranks positions : List ℕ) → PlacesTo d owners ranks positions n
       → PlacesTo d (set owners n (owner d (n + 1))) (set ranks n (rank d (n + 1))) (set positions (owner d (n + 1) * 32 + rank d (n + 1)) (n + 1)) (n + 1)
   places_more owners ranks positions so =
       (owned, ranked, found, length-set _ _ _ ∙ so.3, length-set _ _ _ ∙ so.4, length-set _ _ _ ∙ so.5)
@@ -85,19 +84,3 @@ module _ (d : Deal) (owners ranks positions : List ℕ) (n : ℕ) (end : n ≡ e
       let back : x.0 - 1 + 1 ≡ x.0 = omega arith in
       let there : get_or positions (owner d x.0 * 32 + rank d x.0) 0 ≡ x.0 = subst (λ m. get_or positions (owner d m * 32 + rank d m) 0 ≡ m) back (so.2 (x.0 - 1) (omega arith)) in
       sym (ap₂ (λ u v. get_or positions (u * 32 + v) 0) o k) ∙ there ∙ sym (ap (λ p. unwrap_or p 0) x.1)
-
--- the table of shares, right for the first n boards
-abbrev pub SharesTo : Deal → List ℕ → ℕ → Type 0
-SharesTo d shares n = ((b : ℕ) → b < n → get_or shares b 0 ≡ share d b) × (length shares ≡ 8)
-
-pub shares_more : (d : Deal) (shares : List ℕ) (n s : ℕ) → n < 8 → s ≡ share d n → SharesTo d shares n → SharesTo d (set shares n s) (n + 1)
-shares_more d shares n s low is so = (
-  below_more (λ b. get_or (set shares n s) b 0 ≡ share d b) n
-      (λ b less. let ne : b ≢ n = omega arith in get_or-set_other shares n b s 0 ne ∙ so.0 b less)
-      (get_or-set_same shares n s 0 (omega arith) ∙ is),
-  length-set _ _ _ ∙ so.1,
-)
-
--- the rows of a deal list it
-pub listed_is : (d : Deal) (boards size : ℕ) (owners : List ℕ) → boards ≡ d.boards → size ≡ extent d → OwnersIn d owners → listed boards (take size owners) ≡ d
-listed_is d boards size owners b s o = ap₂ listed b (ap (λ n. take n owners) s ∙ o)

@@ -10,6 +10,7 @@ use nest::terms::Grid;
 
 /// How the arrays of a nest are dealt out: the answers of their maps, with where each board's part of each array
 /// begins. Worked out once, asked in constant time.
+// Kept: rows and columns apart with a count beside them, since each is lent as one slice, and there is no heap.
 #[derive(Clone, Copy)]
 pub struct Dealt {
     pub(crate) grid: Grid,

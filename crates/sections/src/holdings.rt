@@ -51,6 +51,7 @@ impl Dealt {
         self.grid
     }
 
+    // Kept: a function for each dimension, since the name at the call says more than an argument would.
     /// The maps of the rows, in the order of the arrays.
     pub fn row_maps(&self) -> &[MapTable]
         ensures { map tabled result.now ≡ (deals_of self.now).rows }

@@ -11,6 +11,7 @@ pub(crate) const MOST_PLACES: usize = MOST_BOARDS * MOST_POSITIONS;
 
 /// The answers of a map, each found by one look: the owner and the rank of each position, how many positions each
 /// board owns, and the position of each board and rank.
+// Kept: rows of bytes with a size beside them, since the row of owners is the map's meaning, and there is no heap.
 #[derive(Clone, Copy)]
 pub struct MapTable {
     pub(crate) boards: usize,

@@ -13,6 +13,7 @@ pub enum LayoutRefusal {
 
 impl LayoutRefusal {
     /// The number by which the refusal is known in a fault.
+    // Kept: a number, since programs print it.
     pub fn number(self) -> u8
         ensures { result ≡ number self }
     {

@@ -4,13 +4,8 @@ use Rattle.std.proofs.lemmas.Iterator.{cases_from_all, YieldsList-from_slice, Yi
 use Rattle.std.proofs.lemmas.Iterator.Consumers.{YieldsList-at}
 use Rattle.nest.specs.declared.terms.Array.{Array}
 use Rattle.sections.specs.Sections.{DealsOut, Fits, dealt}
-use Rattle.sections.proofs.MapsFit.{AllOut, SomeNot, fits_like, answer_like, unfit_number, unfit_rows, fit_columns}
+use Rattle.sections.proofs.MapsFit.{AllOut, SomeNot, fits_like, answer_like, unfit_rows, fit_columns}
 use Rattle.sections.proofs.fitting.maps_fit.Goals as goal
-
-pub returns-then-row_maps-arrays : goal.returns-then-row_maps-arrays
-returns-then-row_maps-arrays g c fit =
-    unfit_number g.R.OwnerMap.meaning g.C.OwnerMap.meaning c.args.nest.now.grid c.arrays-arrays.result.now c.args.row_maps.now c.args.column_maps.now c.then-row_maps-arrays.either
-    (fits_like _ _ _ _ _ (λ i. c.args.nest.now.grid) (sym c.arrays-arrays.ensures) fit)
 
 pub returns-then-all : goal.returns-then-all
 returns-then-all g c =

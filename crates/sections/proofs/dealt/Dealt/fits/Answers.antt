@@ -12,10 +12,9 @@ shape : (r : Bool) (grid : Grid) (arrays : List Array) (deals : Deals) → Match
 shape true grid arrays deals fit on = same_shape grid arrays deals fit
 shape false grid arrays deals fit on = absurd on
 
-pub returns : goal.returns
-returns c =
+pub returns-clause-elements : goal.returns-clause-elements
+returns-clause-elements c =
     let grid = c.args.nest.now.grid in
     let arrays = vec_items c.args.nest.now.arrays in
     let same : dealt (map tabled c.row_maps.result.now) (map tabled c.column_maps.result.now) ≡ deals_of c.args.self.now = ap₂ dealt c.row_maps.ensures c.column_maps.ensures in
-    let fit = subst (λ deals. MatchBool c.maps_fit.result (Fits grid arrays deals) (Fits grid arrays deals → ⊥)) same c.maps_fit.ensures in
-    record { answer = fit; elements = shape c.maps_fit.result grid arrays (deals_of c.args.self.now) fit }
+    shape c.maps_fit.result grid arrays (deals_of c.args.self.now) (subst (λ deals. MatchBool c.maps_fit.result (Fits grid arrays deals) (Fits grid arrays deals → ⊥)) same c.maps_fit.ensures)

@@ -1,19 +1,9 @@
 use Rattle.std.proofs.Common.{vec_items}
 use Rattle.nest.specs.Views.{said_all}
-use Rattle.sections.proofs.DealtMade.{deals_same, rows_count, columns_count, tables_startable}
+use Rattle.sections.proofs.DealtMade.{rows_count, tables_startable}
 use Rattle.sections.proofs.MapsFit.{maps_sound}
 use Rattle.sections.proofs.NestRoom.{kept_room}
 use Rattle.sections.proofs.dealt.Dealt.new.Goals as goal
-
-pub tables_of-rows-requires : goal.tables_of-rows-requires
-tables_of-rows-requires g c =
-    let room = kept_room c.args.nest.now.grid (vec_items c.args.nest.now.arrays) c.args.nest.now.sweeps (said_all c.args.nest.now.statements) c.args.nest.now.kept in
-    rows_count g.R.OwnerMap.meaning g.C.OwnerMap.meaning c.args.nest.now.grid (vec_items c.args.nest.now.arrays) c.args.row_maps.now c.args.column_maps.now c.if-not-maps_fit.ensures room
-
-pub tables_of-columns-requires : goal.tables_of-columns-requires
-tables_of-columns-requires g c =
-    let room = kept_room c.args.nest.now.grid (vec_items c.args.nest.now.arrays) c.args.nest.now.sweeps (said_all c.args.nest.now.statements) c.args.nest.now.kept in
-    columns_count g.R.OwnerMap.meaning g.C.OwnerMap.meaning c.args.nest.now.grid (vec_items c.args.nest.now.arrays) c.args.row_maps.now c.args.column_maps.now c.if-not-maps_fit.ensures room
 
 pub part_starts-starts-requires : goal.part_starts-starts-requires
 part_starts-starts-requires g c =
@@ -29,11 +19,3 @@ invariant_of-result g c =
     let ready = tables_startable g.R.OwnerMap.meaning g.C.OwnerMap.meaning c.args.nest.now.grid (vec_items c.args.nest.now.arrays) c.args.row_maps.now c.args.column_maps.now c.if-not-maps_fit.ensures room c.tables_of-rows.result c.tables_of-columns.result c.tables_of-rows.ensures.same c.tables_of-columns.ensures.same c.grid-grid.result c.grid-grid.ensures sound in
     let count = rows_count g.R.OwnerMap.meaning g.C.OwnerMap.meaning c.args.nest.now.grid (vec_items c.args.nest.now.arrays) c.args.row_maps.now c.args.column_maps.now c.if-not-maps_fit.ensures room in
     record { few = count.1; row_room = c.tables_of-rows.ensures.room; column_room = c.tables_of-columns.ensures.room; start_room = c.part_starts-starts.ensures.room; boards = ready.0; over = ready.3; begun = c.part_starts-starts.ensures.begun; low = ready.4 }
-
-pub returns : goal.returns
-returns g c =
-    let room = kept_room c.args.nest.now.grid (vec_items c.args.nest.now.arrays) c.args.nest.now.sweeps (said_all c.args.nest.now.statements) c.args.nest.now.kept in (
-      c.if-not-maps_fit.ensures,
-      c.grid-grid.ensures,
-      deals_same g.R.OwnerMap.meaning g.C.OwnerMap.meaning c.args.nest.now.grid (vec_items c.args.nest.now.arrays) c.args.row_maps.now c.args.column_maps.now c.if-not-maps_fit.ensures room c.tables_of-rows.result c.tables_of-columns.result c.tables_of-rows.ensures.same c.tables_of-columns.ensures.same,
-    )
