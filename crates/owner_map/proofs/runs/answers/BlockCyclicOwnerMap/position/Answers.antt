@@ -20,4 +20,4 @@ returns c =
     let board = c.in_ok-check_board.ensures.0 in
     let some = position_runs m.width m.numbers.boards m.numbers.length m.wide m.numbers.within.0 c.args.board c.args.rank board in
     let none = none_runs m.width m.numbers.boards m.numbers.length m.wide m.numbers.within.0 c.args.board c.args.rank board in
-    grind (arith, common_steps, nat_tests)
+    grind (arith, nat_tests)
