@@ -1,4 +1,4 @@
--- Steps of a walk along a row of owners.
+-- What iterators over a row of owners find.
 use Rattle.std.proofs.Common.{◌≡◌, ℕ, zero, suc, ◌+◌, ◌-◌, ◌<◌, ◌≤◌, List, [], ◌∷◌, length, get_or, take, count_by, ◌==◌, refl, sym, ap, ◌∙◌, arith}
 use Rattle.std.specs.List.{range_with_len, zip, slice_get, filter}
 use Rattle.std.specs.Option.{option_map}
@@ -6,14 +6,7 @@ use Rattle.std.proofs.lemmas.List.{take-take, get_or-take}
 use Rattle.std.proofs.lemmas.Bool.Decides.{nat_tests}
 use Rattle.owner_map.specs.Meaning.{Sound, owner, place, below, tally, seek}
 use Rattle.owner_map.specs.Listed.{listed}
-use Rattle.owner_map.specs.Tallies.{tally_counts, tally_more}
-
-module _ (b : ℕ) (row : List ℕ) (i : ℕ) (within : i < length row) where
-  pub tally_hit : get_or row i 0 ≡ b → tally b (take (i + 1) row) ≡ tally b (take i row) + 1
-  tally_hit e = let t = tally_more b row i within in grind (arith, nat_tests)
-
-  pub tally_miss : (get_or row i 0 ≡ b → ⊥) → tally b (take (i + 1) row) ≡ tally b (take i row)
-  tally_miss e = let t = tally_more b row i within in grind (arith, nat_tests)
+use Rattle.owner_map.specs.Tallies.{tally_counts}
 
 -- The position of board b at rank r is the r-th of those that the row names b for.
 pub seek_nth : (b r x n : ℕ) (row : List ℕ) → option_map (λ (q : ℕ × ℕ). q.0) (slice_get (filter (λ (q : ℕ × ℕ). q.1 == b) (zip (range_with_len x n) row)) r) ≡ seek x b r (take n row)
@@ -36,14 +29,8 @@ owner_listed p os sound i within =
     let o : get_or os (i + 1 - 1) 0 < p = sound.4 (i + 1) (omega arith) in
     rw s at o
 
--- A count along the front of a table's row is that of the deal which its filled part lists.
-pub below_listed : (p size : ℕ) (row : List ℕ) (b bound : ℕ) → bound ≤ size + 1 → below (listed p (take size row)) b bound ≡ tally b (take (bound - 1 - 0) row)
-below_listed p size row b bound h =
-    let e : bound - 1 - 0 ≡ bound - 1 = omega arith in
-    let within : bound - 1 ≤ size = omega arith in
-    rw e (ap (tally b) (take-take (bound - 1) size row within))
-
--- The same of the part of the row that stands below a bound, and the place that it gives a position.
+-- What is counted in the part of a row below a bound, and the place that the row gives a position, are those of the deal that
+-- the filled part of the row lists.
 module _ (p size : ℕ) (row : List ℕ) where
   pub below_counted : (b bound k : ℕ) → bound ≤ size + 1 → k ≡ bound - 1 → count_by (λ o. o == b) (take k row) ≡ below (listed p (take size row)) b bound
   below_counted b bound k high e =
