@@ -55,9 +55,16 @@ impl<'a, T> Belt<'a, T> {
     fn first_of(&self, pair: Pair) -> Option<usize>
         ensures { FirstOf pair.from pair.to (take self.now.used self.now.slots.now) result }
     {
-        self.slots[..self.used]
-            .iter()
-            .position(|slot| slot.pair == pair)
+        let slots = &self.slots[..self.used];
+        let mut k = 0;
+        // Kept: a rule of the project names this form here, a loop that yields by `break` the index that it looks for.
+        let found = loop {
+            if slots.get(k)?.pair == pair {
+                break k;
+            }
+            k += 1;
+        };
+        Some(found)
     }
 }
 
