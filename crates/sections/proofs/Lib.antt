@@ -5,7 +5,6 @@ pub mod Orders
 pub mod NestRoom
 pub mod MapsFit
 pub mod PartStarts
-pub mod ElementPlaces
 pub mod Lookups
 pub mod Tablings
 pub mod DealtPlaces

@@ -1,16 +1,12 @@
 -- Whether maps fit a nest, array by array.
-use Rattle.std.proofs.Common.{◌≡◌, ℕ, zero, suc, ◌<◌, Bool, true, false, MatchBool, List, [], ◌∷◌, map, length, get_or, sym, ap, ◌∙◌, subst, arith}
+use Rattle.std.proofs.Common.{◌≡◌, ℕ, zero, suc, ◌<◌, Bool, true, false, MatchBool, List, [], ◌∷◌, map, length, get_or, ◌∙◌, subst, arith}
 use Rattle.std.specs.List.{AllWithin, HoldsAt, zip}
-use Rattle.std.proofs.lemmas.List.{length-map, get_or-map}
+use Rattle.std.proofs.lemmas.List.{length-map}
 use Rattle.nest.specs.declared.terms.Array.{Array}
 use Rattle.nest.specs.declared.terms.Grid.{Grid}
 use Rattle.layout.specs.Places.{array_at}
 use Rattle.owner_map.specs.Meaning.{Deal, Sound}
 use Rattle.sections.specs.Sections.{EachSound, Deals, DealsOut, Fits, dealt, undealt}
-
--- the deal of the map at t
-pub meant : {X : Type 0} (f : X → Deal) (xs : List X) (t : ℕ) (x : X) → t < length xs → x ≡ get_or xs t x → f x ≡ get_or (map f xs) t undealt
-meant f xs t x h e = ap f e ∙ sym (get_or-map f xs t x undealt h)
 
 pub fits_like : (grid grid' : Grid) (arrays arrays' : List Array) (deals : Deals) → grid ≡ grid' → arrays ≡ arrays' → Fits grid arrays deals → Fits grid' arrays' deals
 fits_like grid grid' arrays arrays' deals g a fit = subst (λ h. Fits h arrays' deals) g (subst (λ b. Fits grid b deals) a fit)

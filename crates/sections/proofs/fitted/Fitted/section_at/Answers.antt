@@ -3,7 +3,6 @@ use Rattle.std.proofs.lemmas.Option.{MatchOption-at_some}
 use Rattle.nest.specs.declared.terms.Array.{Array}
 use Rattle.nest.specs.declared.terms.Grid.{Grid}
 use Rattle.nest.specs.Nests.{shown}
-use Rattle.nest.specs.Views.{said_all}
 use Rattle.layout.specs.Places.{total, IsElement, place_of}
 use Rattle.sections.specs.Beside.{Beside}
 use Rattle.sections.specs.Dealings.{deals_of}
@@ -11,14 +10,14 @@ use Rattle.sections.specs.DealtNests.{DealtNest}
 use Rattle.sections.specs.Holdings.{DealtElement}
 use Rattle.sections.specs.Sections.{Deals, section_of}
 use Rattle.sections.proofs.DealtPlaces.{element_dealt}
-use Rattle.sections.proofs.NestRoom.{kept_room}
+use Rattle.sections.proofs.NestRoom.{nest_room}
 use Rattle.sections.proofs.Walks.{beside_found, section_low, is_there}
 use Rattle.sections.proofs.fitted.Fitted.section_at.Goals as goal
 
 pub element_at-requires : goal.element_at-requires
 element_at-requires c =
     let nest = c.self.inside.nest.now in
-    let room = kept_room nest.grid (vec_items nest.arrays) nest.sweeps (said_all nest.statements) nest.kept in
+    let room = nest_room nest in
     omega (arith, ap total c.arrays.ensures, room.elements)
 
 -- what is known of the element that was found
