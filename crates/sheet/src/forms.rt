@@ -8,7 +8,7 @@ use tokens::extent::FieldKind;
 use tokens::fault::LineFault;
 use tokens::part::Token;
 
-/// Reads the fields of a line and its end, from behind its key.
+/// Reads the fields of a line and its end, from behind its key, which holds the places of the fields till then.
 pub(crate) fn read_fields<'a>(
     cursor: &mut Cursor<'a>,
     kinds: &[FieldKind],
