@@ -7,13 +7,13 @@ use tokens::fault::LineFault;
 use tokens::part::Place;
 
 /// A number outside its range. Refusal 2.
-#[derive(Clone, Copy)]
+#[derive(Clone, Copy, PartialEq, Eq, Debug)]
 pub struct FieldFault {
     pub place: Place,
 }
 
 /// What keeps lines that are fine on their own from being a nest.
-#[derive(Clone, Copy)]
+#[derive(Clone, Copy, PartialEq, Eq, Debug)]
 pub enum NestFault {
     /// The grid has more than 8 boards. Refusal 3.
     TooManyBoards(Place),
@@ -26,7 +26,7 @@ pub enum NestFault {
 }
 
 /// Why a sheet gives no nest.
-#[derive(Clone, Copy)]
+#[derive(Clone, Copy, PartialEq, Eq, Debug)]
 pub enum SheetFault {
     Line(LineFault),
     Field(FieldFault),
