@@ -1,7 +1,9 @@
 -- Lists joined, filtered and searched. Assumes nothing.
 use Rattle.std.proofs.Common.{◌≡◌, Bool, true, false, cond, ◌&&◌, List, [], ◌∷◌, ◌++◌, map, Some, filter, sym, refl, ap, ◌∙◌, ap₂, inl, inr}
 use Rattle.std.specs.List.{flat_map, AllByRecursion}
-use Rattle.std.proofs.lemmas.List.{append_assoc}
+pub use Rattle.std.proofs.lemmas.Grind.{flat_map-append as joined_append}
+pub use Rattle.std.proofs.lemmas.List.Concat.{flat_map_single as joined_single}
+pub use Rattle.std.proofs.lemmas.List.Folds.{flat_map-map as joined_map}
 use Rattle.sequential.specs.Laws.{In}
 use Rattle.compiler.specs.Cells.{present}
 
@@ -11,27 +13,14 @@ all_in P [] x a m = absurd m
 all_in P (y ∷ xs) x a (inl e) = rw e a.0
 all_in P (y ∷ xs) x a (inr m) = all_in P xs x a.1 m
 
-pub joined_append : {X A : Type 0} (f : X → List A) (xs ys : List X) → flat_map f (xs ++ ys) ≡ flat_map f xs ++ flat_map f ys
-joined_append f [] ys = refl
-joined_append f (x ∷ xs) ys = ap (λ r. f x ++ r) (joined_append f xs ys) ∙ sym (append_assoc (f x) (flat_map f xs) (flat_map f ys))
-
 pub joined_joined : {X Y A : Type 0} (f : Y → List A) (g : X → List Y) (xs : List X) → flat_map f (flat_map g xs) ≡ flat_map (λ x. flat_map f (g x)) xs
 joined_joined f g [] = refl
 joined_joined f g (x ∷ xs) = joined_append f (g x) (flat_map g xs) ∙ ap (λ r. flat_map f (g x) ++ r) (joined_joined f g xs)
-
-pub joined_map : {X Y A : Type 0} (f : Y → List A) (g : X → Y) (xs : List X) → flat_map f (map g xs) ≡ flat_map (λ x. f (g x)) xs
-joined_map f g [] = refl
-joined_map f g (x ∷ xs) = ap (λ r. f (g x) ++ r) (joined_map f g xs)
 
 -- equal parts, equal lists
 pub joined_like : {X A : Type 0} (f g : X → List A) (xs : List X) → ((x : X) → f x ≡ g x) → flat_map f xs ≡ flat_map g xs
 joined_like f g [] same = refl
 joined_like f g (x ∷ xs) same = ap₂ (λ a b. a ++ b) (same x) (joined_like f g xs same)
-
--- parts of one each
-pub joined_single : {X A : Type 0} (f : X → A) (xs : List X) → flat_map (λ x. f x ∷ []) xs ≡ map f xs
-joined_single f [] = refl
-joined_single f (x ∷ xs) = ap (λ r. f x ∷ r) (joined_single f xs)
 
 -- empty parts
 pub joined_nothing : {X A : Type 0} (f : X → List A) (xs : List X) → ((x : X) → f x ≡ []) → flat_map f xs ≡ []

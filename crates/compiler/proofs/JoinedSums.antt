@@ -11,11 +11,6 @@ module _ {X A : Type 0} (g : X → List A) where
   sum_by_joined f (x ∷ xs) =
       sum_by-append f (g x) (flat_map g xs) ∙ ap (λ n. sum_by f (g x) + n) (sum_by_joined f xs) ∙ sym (sum_by-cons (λ y. sum_by f (g y)) x xs)
 
-  pub length_joined : (xs : List X) → length (flat_map g xs) ≡ sum_by (λ x. length (g x)) xs
-  length_joined [] = refl
-  length_joined (x ∷ xs) =
-      length-append (g x) (flat_map g xs) ∙ ap (λ n. length (g x) + n) (length_joined xs) ∙ sym (sum_by-cons (λ y. length (g y)) x xs)
-
   -- of lists that are all equally long
   pub length_joined_even : (m : ℕ) → ((x : X) → length (g x) ≡ m) → (xs : List X) → length (flat_map g xs) ≡ length xs * m
   length_joined_even m even [] = sym (zero-mul m)

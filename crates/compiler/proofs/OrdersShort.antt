@@ -1,10 +1,11 @@
 -- A board has few orders, and their spans are short. Assumes nothing.
-use Rattle.std.proofs.Common.{◌≡◌, ℕ, ◌+◌, ◌<◌, ◌≤◌, Bool, true, leb, List, [], ◌∷◌, length, get_or, refl, arith, Option, Some, None}
+use Rattle.std.proofs.Common.{◌≡◌, ℕ, ◌+◌, ◌<◌, ◌≤◌, Bool, true, List, [], ◌∷◌, length, get_or, refl, arith, Option, Some, None}
 use Rattle.std.specs.List.{AllByRecursion}
 use Rattle.std.proofs.ByRecursion.{All-map, All-weaker, sum_by_le}
+use Rattle.std.proofs.lemmas.List.Concat.{length-flat_map}
 use Rattle.std.proofs.lemmas.List.{length-map}
-use Rattle.std.proofs.lemmas.Bool.{and_parts, leb-true}
-use Rattle.nest.specs.Sound.{each, array_kept, read_kept, statement_kept}
+use Rattle.std.proofs.lemmas.Bool.{and_parts}
+use Rattle.nest.specs.Sound.{each, array_kept, statement_kept}
 use Rattle.nest.specs.Terms.{position, nowhere, Said}
 use Rattle.nest.specs.declared.terms.Array.{Array}
 use Rattle.nest.specs.declared.terms.Mode.{Mode}
@@ -22,15 +23,11 @@ use Rattle.compiler.specs.Orders.{numbered, tasks_of, task_order, orders_by, ord
 use Rattle.compiler.specs.Making.{seat_in, Seated, Spannable, Orderable}
 use Rattle.compiler.specs.StepCounts.{Short, FewReads, FewOrders}
 use Rattle.compiler.proofs.CellCounts.{length_tasks}
-use Rattle.compiler.proofs.JoinedSums.{length_joined, all_joined}
+use Rattle.compiler.proofs.JoinedSums.{all_joined}
+use Rattle.compiler.proofs.KeptStatements.{few_reads}
 use Rattle.compiler.proofs.SpansReach.{tasks_orderable, plain_spannable}
 
--- a kept statement has few reads
-few_reads : (arrays : List Array) (s : Said) → statement_kept arrays s ≡ true → length s.reads ≤ 4
-few_reads arrays s k =
-    let p = and_parts _ (each (read_kept arrays s.i s.j) s.reads) k in
-    leb-true (length s.reads) 4 (and_parts _ (leb (length s.reads) 4) p.0).1
-
+-- kept statements have few reads
 each_few : (arrays : List Array) (ss : List Said) → each (statement_kept arrays) ss ≡ true → FewReads ss
 each_few arrays [] k = tt
 each_few arrays (s ∷ ss) k =
@@ -93,7 +90,7 @@ module _ (d : DealtNest) (p : ℕ) (seated : Seated d p) where
   all_few =
       let some = parts.some_statements in
       let each-short = All-weaker _ (λ ks. length (orders_for board ks) ≤ 10) (λ ks h. orders_few (0 + length d.nest.statements) ks.0 ks.1 h.0 h.1 ks.1.mode) (numbered 0 d.nest.statements) numbered_kept in
-      omega (arith, length_joined (orders_for board) (numbered 0 d.nest.statements), sum_by_le (λ ks. length (orders_for board ks)) 10 (numbered 0 d.nest.statements) each-short, length_numbered 0 d.nest.statements, some.1)
+      omega (arith, length-flat_map (orders_for board) (numbered 0 d.nest.statements), sum_by_le (λ ks. length (orders_for board ks)) 10 (numbered 0 d.nest.statements) each-short, length_numbered 0 d.nest.statements, some.1)
 
   -- all orders of a board
   pub board_orders_few : FewOrders d.nest.statements (board_orders board d.nest.statements)

@@ -13,12 +13,15 @@ use Rattle.layout.proofs.Starts.{element_here}
 use Rattle.sections.specs.DealtNests.{DealtNest, IsFitted}
 use Rattle.sections.specs.Sections.{rows_of, columns_of}
 use Rattle.sequential.specs.Iterations.{variable_in, position_in}
-use Rattle.sequential.specs.Ready.{Within}
+use Rattle.sequential.specs.Ready.{Within, SmallIn}
 use Rattle.sequential.specs.declared.iteration.Iteration.{Iteration}
+use Rattle.dealing.specs.declared.dimension.Dimension.{Dimension}
+use Rattle.dealing.specs.declared.dimension.Dimension.TheVariants.{Rows, Columns}
 use Rattle.compiler.specs.declared.owners.Owners.{Owners}
+use Rattle.compiler.specs.declared.owners.OwnersAlong.{OwnersAlong}
 use Rattle.compiler.specs.Cells.{board_at}
-use Rattle.compiler.specs.OwnerTables.{Stays, Along, Reaches, Tells, owner_by, board_by}
-use Rattle.compiler.specs.Spans.{seat}
+use Rattle.compiler.specs.OwnerTables.{Stays, Along, HasOwner, Reaches, Tells, owner_by, board_by}
+use Rattle.compiler.specs.Spans.{seat, deal_in, subscript_in}
 use Rattle.compiler.proofs.TaskSpans.{board_there}
 
 -- a table has the owners at the values from low up to w, without w
@@ -57,56 +60,52 @@ range_some J s p q = q
 
 -- deals that fit a nest, and an access that names an element in each iteration of a statement
 module _ (d : DealtNest) (fitted : IsFitted d) (s : Said) (some : (s.i.low ≤ s.i.high) × (s.j.low ≤ s.j.high)) (a : Access) (reaches : Reaches d.nest.arrays s a) where
-  -- the position that it names in a dimension is one of its deal
-  row_position : (e : Iteration) → Within s e → Position (rows_of d.deals a.array) (position_in a.row e)
-  row_position e w =
-      let at = element_here d.nest.arrays a.array _ _ (reaches e w).element in
-      (at.1, omega (arith, at.2, (fitted.0.2 a.array at.0).0.1))
-
-  column_position : (e : Iteration) → Within s e → Position (columns_of d.deals a.array) (position_in a.column e)
-  column_position e w =
-      let at = element_here d.nest.arrays a.array _ _ (reaches e w).element in
-      (at.3, omega (arith, at.4, (fitted.0.2 a.array at.0).1.1))
-
   pub array_there : a.array < length d.nest.arrays
   array_there = (element_here d.nest.arrays a.array _ _ (reaches (record { i = s.i.low; j = s.j.low }) (omega arith, some.0, omega arith, some.1)).element).0
 
-  pub rows_stay : (m : Deal) → m ≡ rows_of d.deals a.array → (range : Range) → range ≡ range_of a.row.variable s.i s.j → Stays m a.row range
-  rows_stay m is range same =
-      let x : Variable = a.row.variable in
-      let w : Within s (at_value x s (range_of x s.i s.j).high) = within_at x s _ some.0 some.1 (range_some x s some.0 some.1) (omega arith) in
-      let e = reaches _ w in
-      rw (same, is) (
-        e.row.0,
-        e.row.2,
-        omega (arith, e.row.1, value_at x s (range_of x s.i s.j).high),
-        λ v low high. rw (value_at x s v) at (row_position (at_value x s v) (within_at x s v some.0 some.1 low high)),
-      )
+  -- the position that it names in a dimension is one of its deal, and small
+  position_there : (v : Dimension) (e : Iteration) → Within s e → Position (deal_in v d.deals a.array) (position_in (subscript_in v a) e)
+  position_there Rows e w =
+      let at = element_here d.nest.arrays a.array _ _ (reaches e w).element in
+      (at.1, omega (arith, at.2, (fitted.0.2 a.array at.0).0.1))
+  position_there Columns e w =
+      let at = element_here d.nest.arrays a.array _ _ (reaches e w).element in
+      (at.3, omega (arith, at.4, (fitted.0.2 a.array at.0).1.1))
 
-  pub columns_stay : (m : Deal) → m ≡ columns_of d.deals a.array → (range : Range) → range ≡ range_of a.column.variable s.i s.j → Stays m a.column range
-  columns_stay m is range same =
-      let x : Variable = a.column.variable in
-      let w : Within s (at_value x s (range_of x s.i s.j).high) = within_at x s _ some.0 some.1 (range_some x s some.0 some.1) (omega arith) in
-      let e = reaches _ w in
-      rw (same, is) (
-        e.column.0,
-        e.column.2,
-        omega (arith, e.column.1, value_at x s (range_of x s.i s.j).high),
-        λ v low high. rw (value_at x s v) at (column_position (at_value x s v) (within_at x s v some.0 some.1 low high)),
-      )
+  small_there : (v : Dimension) (e : Iteration) → Within s e → SmallIn (subscript_in v a) e
+  small_there Rows e w = (reaches e w).row
+  small_there Columns e w = (reaches e w).column
+
+  module _ (v : Dimension) (m : Deal) (is : m ≡ deal_in v d.deals a.array) (range : Range) (same : range ≡ range_of (subscript_in v a).variable s.i s.j) where
+    pub stays : Stays m (subscript_in v a) range
+    stays =
+        let x : Variable = (subscript_in v a).variable in
+        let w : Within s (at_value x s (range_of x s.i s.j).high) = within_at x s _ some.0 some.1 (range_some x s some.0 some.1) (omega arith) in
+        let e = small_there v _ w in
+        rw (same, is) (
+          e.0,
+          e.2,
+          omega (arith, e.1, value_at x s (range_of x s.i s.j).high),
+          λ u low high. rw (value_at x s u) at (position_there v (at_value x s u) (within_at x s u some.0 some.1 low high)),
+        )
+
+    -- a table along the subscript tells the owner in each iteration
+    told : (table : OwnersAlong) → Along m (subscript_in v a) range table → (e : Iteration) → Within s e → HasOwner table e × (owner_by table e ≡ owner (deal_in v d.deals a.array) (position_in (subscript_in v a) e))
+    told table along e w =
+        let x : Variable = (subscript_in v a).variable in
+        let r = in_range x s e w in
+        let at : variable_in table.variable e ≡ variable_in x e = ap (λ y. variable_in y e) along.1 in (
+          (along.0, omega (arith, at, (small_there v e w).1)),
+          ap (λ n. get_or table.owners n 0) at ∙ (rw same at along.2) _ r.0 r.1 ∙ ap (λ n. owner n (position_in (subscript_in v a) e)) is,
+        )
 
   -- tables of the owners along both subscripts tell the board
   pub tables_tell : d.nest.grid.rows * d.nest.grid.columns ≤ 8 → (m c : Deal) → m ≡ rows_of d.deals a.array → c ≡ columns_of d.deals a.array → (across down : Range)
       → across ≡ range_of a.row.variable s.i s.j → down ≡ range_of a.column.variable s.i s.j → (o : Owners) → Along m a.row across o.rows → Along c a.column down o.columns → o.grid_rows ≡ d.nest.grid.rows
       → Tells d.nest.grid.rows d.deals s a o
   tables_tell room m c is-m is_c across down sa sd o ra ca sq e w =
-      let el = reaches e w in
-      let rv = in_range a.row.variable s e w in
-      let cv = in_range a.column.variable s e w in
-      let rx : variable_in o.rows.variable e ≡ variable_in a.row.variable e = ap (λ x. variable_in x e) ra.1 in
-      let cx : variable_in o.columns.variable e ≡ variable_in a.column.variable e = ap (λ x. variable_in x e) ca.1 in
-      let row : owner_by o.rows e ≡ owner (rows_of d.deals a.array) (position_in a.row e) = ap (λ v. get_or o.rows.owners v 0) rx ∙ (rw sa at ra.2) _ rv.0 rv.1 ∙ ap (λ n. owner n (position_in a.row e)) is-m in
-      let column : owner_by o.columns e ≡ owner (columns_of d.deals a.array) (position_in a.column e) = ap (λ v. get_or o.columns.owners v 0) cx ∙ (rw sd at ca.2) _ cv.0 cv.1 ∙ ap (λ n. owner n (position_in a.column e)) is_c in
-      let is : board_by o e ≡ board_at (seat d.nest.grid.rows d.deals 0) a e = ap₂ (λ x y. x + y) row (ap₂ (λ x y. x * y) sq column) in
+      let row = told Rows m is-m across sa o.rows ra e w in
+      let column = told Columns c is_c down sd o.columns ca e w in
+      let is : board_by o e ≡ board_at (seat d.nest.grid.rows d.deals 0) a e = ap₂ (λ x y. x + y) row.1 (ap₂ (λ x y. x * y) sq column.1) in
       let there = board_there d.nest.grid d.nest.arrays d.deals fitted.0 (λ t l k. (fitted.1.0 t l, fitted.1.1 t k)) a e array_there in
-      (((ra.0, omega (arith, rx, el.row.1)), (ca.0, omega (arith, cx, el.column.1)), omega (arith, is, there)), is)
+      ((row.0, column.0, omega (arith, is, there)), is)

@@ -4,7 +4,7 @@ use Rattle.std.proofs.lemmas.Nat.{div_below, mod_below}
 use Rattle.std.proofs.ByRecursion.{All-append}
 use Rattle.std.proofs.lemmas.Bool.{and_parts}
 use Rattle.nest.specs.Sound.{each, range_kept, access_kept, is_i, read_kept, statement_kept}
-use Rattle.nest.specs.Terms.{position, range_of, inside, nowhere, Said}
+use Rattle.nest.specs.Terms.{far, position, range_of, inside, nowhere, Said}
 use Rattle.nest.specs.declared.terms.Access.{Access}
 use Rattle.nest.specs.declared.terms.Range.{Range}
 use Rattle.nest.specs.declared.terms.ReadTerm.{ReadTerm}
@@ -13,35 +13,19 @@ use Rattle.nest.specs.declared.terms.Variable.{Variable}
 use Rattle.nest.specs.declared.terms.Variable.TheVariants.{I, J}
 use Rattle.owner_map.specs.Meaning.{Deal, Board, Bound, extent}
 use Rattle.sections.specs.DealtNests.{DealtNest}
-use Rattle.sections.specs.Sections.{rows_of, columns_of}
+use Rattle.sections.specs.Sections.{DealsOut}
 use Rattle.sequential.specs.Iterations.{variable_in, position_in}
 use Rattle.sequential.specs.Ready.{Within}
 use Rattle.sequential.specs.declared.iteration.Iteration.{Iteration}
 use Rattle.sequential.proofs.Kept.{Parts, parts_of, range_of_lem, factor_of, access_parts, inside_at}
+use Rattle.dealing.specs.declared.dimension.Dimension.{Dimension}
 use Rattle.dealing.specs.declared.dimension.Dimension.TheVariants.{Rows, Columns}
 use Rattle.compiler.specs.declared.span.Owning.{Owning}
 use Rattle.compiler.specs.declared.order.Task.TheVariants.{Ship, Base, Add}
-use Rattle.compiler.specs.Spans.{Seat, owning_by, same_variable, moves_with, ship_owning}
+use Rattle.compiler.specs.Spans.{Seat, deal_in, coordinate, subscript_in, owning_by, moves_with, ship_owning}
 use Rattle.compiler.specs.Orders.{tasks_of}
+use Rattle.compiler.proofs.TaskSpans.{size_in, boards_in, is_i_lem, is_j, moves_by}
 use Rattle.compiler.specs.Making.{seat_in, Seated, Spannable, Orderable, AllOrderable}
-
--- which variable a test found
-is_i_lem : (v : Variable) → is_i v ≡ true → v ≡ I
-is_i_lem I e = refl
-is_i_lem J e = cc
-
-is_j : (v : Variable) → not (is_i v) ≡ true → v ≡ J
-is_j I e = cc
-is_j J e = refl
-
-is_same : (v w : Variable) → same_variable v w ≡ true → w ≡ v
-is_same I I e = refl
-is_same I J e = cc
-is_same J I e = cc
-is_same J J e = refl
-
-moves_same : (v : Variable) (x : Subscript) → moves_with v x ≡ true → x.variable ≡ v
-moves_same v x e = is_same v x.variable (and_parts (same_variable v x.variable) (leb 1 x.factor) e).0
 
 -- a grid with a board has a row
 row_some : (r c p : ℕ) → p < r * c → 1 ≤ r
@@ -83,6 +67,18 @@ module _ (d : DealtNest) (p : ℕ) (seated : Seated d p) (s : Said) (kept : stat
       let j = range_of_lem s.j parts.j in
       (omega arith, omega arith, omega arith, omega arith)
 
+  -- the grid's dimensions, and where the board stands in them
+  some_row : 1 ≤ d.nest.grid.rows
+  some_row = row_some d.nest.grid.rows d.nest.grid.columns p seated.there
+
+  board_in : (v : Dimension) → coordinate v d.nest.grid.rows p < boards_in v d.nest.grid
+  board_in Rows = mod_below p d.nest.grid.rows some_row
+  board_in Columns = div_below p d.nest.grid.rows d.nest.grid.columns some_row (omega (arith, seated.there, mul_comm d.nest.grid.rows d.nest.grid.columns))
+
+  dealt_in : (v : Dimension) (t : ℕ) → t < length d.nest.arrays → DealsOut (deal_in v d.deals t) (boards_in v d.nest.grid) (size_in v (get_or d.nest.arrays t nowhere))
+  dealt_in Rows t h = (seated.fits.2 t h).0
+  dealt_in Columns t h = (seated.fits.2 t h).1
+
   module _ (v : Variable) where
     abbrev range : Range
     range = range_of v s.i s.j
@@ -113,45 +109,34 @@ module _ (d : DealtNest) (p : ℕ) (seated : Seated d p) (s : Said) (kept : stat
         (omega arith, omega arith, omega arith)
 
     module _ (least : ℕ) (a : Access) (k : access_kept least d.nest.arrays s.i s.j a ≡ true) where
-      -- an access by its rows, if they go by the variable
-      pub rows_spannable : a.row.variable ≡ v → Spannable board (Some (owning_by Rows a)) range
-      rows_spannable e =
-          let q = access_parts least d.nest.arrays s.i s.j a k in
-          let f = factor_of least a.row q.row in
-          let fit = (seated.fits.2 a.array q.there).0 in
-          let on = ends_inside (get_or d.nest.arrays a.array nowhere).rows a.row e q.rows in
-          let some : 1 ≤ d.nest.grid.rows = row_some d.nest.grid.rows d.nest.grid.columns p seated.there in
-          let b : p % d.nest.grid.rows < d.nest.grid.rows = mod_below p d.nest.grid.rows some in
-          let array : (a.array < length d.deals.rows) × (a.array < length d.deals.columns) = (omega (arith, q.there, seated.fits.0), omega (arith, q.there, seated.fits.1)) in
-          let asked = bounds (rows_of d.deals a.array) d.nest.grid.rows _ (p % d.nest.grid.rows) _ _ b fit.0 fit.1 on.0 on.1 on.2 in (
-            (f.1, small_range.0, f.2),
-            (f.1, small_range.1, f.2),
-            (some, array.0, array.1, asked.0, asked.1),
-            (some, array.0, array.1, asked.0, asked.2),
-          )
+      subscript_small : (v' : Dimension) → ((subscript_in v' a).factor ≤ 4) × (far (subscript_in v' a).offset ≤ 64)
+      subscript_small Rows = let f = factor_of least a.row (access_parts least d.nest.arrays s.i s.j a k).row in (f.1, f.2)
+      subscript_small Columns = let f = factor_of least a.column (access_parts least d.nest.arrays s.i s.j a k).column in (f.1, f.2)
 
-      -- by its columns
-      pub columns_spannable : a.column.variable ≡ v → Spannable board (Some (owning_by Columns a)) range
-      columns_spannable e =
+      subscript_inside : (v' : Dimension) → inside s.i s.j (size_in v' (get_or d.nest.arrays a.array nowhere)) (subscript_in v' a) ≡ true
+      subscript_inside Rows = (access_parts least d.nest.arrays s.i s.j a k).rows
+      subscript_inside Columns = (access_parts least d.nest.arrays s.i s.j a k).columns
+
+      -- an access by a dimension that goes by the variable
+      pub dimension_spannable : (v' : Dimension) → (subscript_in v' a).variable ≡ v → Spannable board (Some (owning_by v' a)) range
+      dimension_spannable v' e =
           let q = access_parts least d.nest.arrays s.i s.j a k in
-          let f = factor_of least a.column q.column in
-          let fit = (seated.fits.2 a.array q.there).1 in
-          let on = ends_inside (get_or d.nest.arrays a.array nowhere).columns a.column e q.columns in
-          let some : 1 ≤ d.nest.grid.rows = row_some d.nest.grid.rows d.nest.grid.columns p seated.there in
-          let b : p / d.nest.grid.rows < d.nest.grid.columns = div_below p d.nest.grid.rows d.nest.grid.columns some (omega (arith, seated.there, mul_comm d.nest.grid.rows d.nest.grid.columns)) in
+          let f = subscript_small v' in
+          let fit = dealt_in v' a.array q.there in
+          let on = ends_inside (size_in v' (get_or d.nest.arrays a.array nowhere)) (subscript_in v' a) e (subscript_inside v') in
           let array : (a.array < length d.deals.rows) × (a.array < length d.deals.columns) = (omega (arith, q.there, seated.fits.0), omega (arith, q.there, seated.fits.1)) in
-          let asked = bounds (columns_of d.deals a.array) d.nest.grid.columns _ (p / d.nest.grid.rows) _ _ b fit.0 fit.1 on.0 on.1 on.2 in (
-            (f.1, small_range.0, f.2),
-            (f.1, small_range.1, f.2),
-            (some, array.0, array.1, asked.0, asked.1),
-            (some, array.0, array.1, asked.0, asked.2),
+          let asked = bounds (deal_in v' d.deals a.array) (boards_in v' d.nest.grid) _ (coordinate v' d.nest.grid.rows p) _ _ (board_in v') fit.0 fit.1 on.0 on.1 on.2 in (
+            (f.0, small_range.0, f.1),
+            (f.0, small_range.1, f.1),
+            (some_row, array.0, array.1, asked.0, asked.1),
+            (some_row, array.0, array.1, asked.0, asked.2),
           )
 
       -- as the ship of a read goes by it
       pub ship_spannable : Spannable board (ship_owning v a) range
       ship_spannable =
-          spannable_cond board (moves_with v a.row) _ _ range (λ t. rows_spannable (moves_same v a.row t))
-          (spannable_cond board (moves_with v a.column) _ _ range (λ t. columns_spannable (moves_same v a.column t)) small_range.1)
+          spannable_cond board (moves_with v a.row) _ _ range (λ t. dimension_spannable Rows ((moves_by v a.row t).0))
+          (spannable_cond board (moves_with v a.column) _ _ range (λ t. dimension_spannable Columns ((moves_by v a.column t).0)) small_range.1)
 
   -- the ship of a read
   pub ship_orderable : (r : ReadTerm) → read_kept d.nest.arrays s.i s.j r ≡ true → Orderable board s (Ship r)
@@ -162,8 +147,8 @@ module _ (d : DealtNest) (p : ℕ) (seated : Seated d p) (s : Said) (kept : stat
   -- any other task
   pub put_orderable : Orderable board s Base
   put_orderable = (
-    rows_spannable I 1 s.put parts.put (is_i_lem s.put.row.variable parts.by_i),
-    columns_spannable J 1 s.put parts.put (is_j s.put.column.variable parts.by_j),
+    dimension_spannable I 1 s.put parts.put Rows (is_i_lem s.put.row.variable parts.by_i),
+    dimension_spannable J 1 s.put parts.put Columns (is_j s.put.column.variable parts.by_j),
   )
 
   -- the whole loop ranges

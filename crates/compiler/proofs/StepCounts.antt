@@ -29,7 +29,7 @@ use Rattle.compiler.specs.Orders.{tasks_of, i_owning, j_owning, task_order, walk
 use Rattle.compiler.specs.Totals.{boards_of, order_steps, statement_steps, steps_of}
 use Rattle.compiler.specs.Laws.{AllSound}
 use Rattle.compiler.proofs.SpanValues.{SpanFits, reach_up}
-use Rattle.compiler.proofs.TaskSpans.{TaskKept, tasks_kept, moves_by, i_fits, j_fits}
+use Rattle.compiler.proofs.TaskSpans.{boards_in, TaskKept, tasks_kept, moves_by, i_fits, j_fits}
 use Rattle.compiler.proofs.CellParts.{length_cells}
 use Rattle.compiler.proofs.ListSums.{sums_like, sums_alike, sums_scaled, sums_swap, sums_map, sums_below}
 
@@ -134,11 +134,6 @@ spans_apart s Store = target_apart s.put
 -- a sum of products with a constant
 constant_factor : (f g : ℕ → ℕ) (c n : ℕ) → ((x : ℕ) → g x ≡ c) → sum_over n (λ x. f x * g x) ≡ sum_over n f * c
 constant_factor f g c n same = sum_like (λ x. f x * g x) (λ x. f x * c) n (λ x h. ap (λ m. f x * m) (same x)) ∙ sum_scaled f c n
-
--- the boards of a grid in a dimension
-abbrev boards_in : Dimension → Grid → ℕ
-boards_in Rows g = g.rows
-boards_in Columns g = g.columns
 
 -- the sum of a span's factors over the boards of a dimension
 abbrev part_total : Dimension → Grid → Range → Option Owning → ℕ

@@ -6,7 +6,7 @@ use Rattle.std.proofs.lemmas.Nat.{div-mul-add, mod-mul-add, mul-add-lt}
 use Rattle.std.proofs.ByRecursion.{All-append, All-map}
 use Rattle.std.proofs.lemmas.List.{get_or_past}
 use Rattle.std.proofs.lemmas.Bool.{and_parts, leb-true, eqb-true, eq-eqb, cond_both, cases_lt}
-use Rattle.nest.specs.Terms.{position, range_of, nowhere, Said}
+use Rattle.nest.specs.Terms.{position, range_of, inside, nowhere, Said}
 use Rattle.nest.specs.Sound.{each, access_kept, is_i, read_kept}
 use Rattle.nest.specs.declared.terms.Access.{Access}
 use Rattle.nest.specs.declared.terms.Array.{Array}
@@ -21,10 +21,11 @@ use Rattle.sections.specs.Sections.{Deals, Fits, rows_of, columns_of}
 use Rattle.sequential.specs.Iterations.{variable_in, position_in}
 use Rattle.sequential.specs.declared.iteration.Iteration.{Iteration}
 use Rattle.sequential.proofs.Kept.{Parts, access_parts, factor_of, range_of_lem}
+use Rattle.dealing.specs.declared.dimension.Dimension.{Dimension}
 use Rattle.dealing.specs.declared.dimension.Dimension.TheVariants.{Rows, Columns}
 use Rattle.compiler.specs.declared.order.Task.{Task}
 use Rattle.compiler.specs.declared.order.Task.TheVariants.{Ship, Base, Add, Store}
-use Rattle.compiler.specs.Spans.{seat, owns_value, owning_by, same_variable, moves_with, ship_owning}
+use Rattle.compiler.specs.Spans.{seat, deal_in, coordinate, owns_value, subscript_in, owning_by, same_variable, moves_with, ship_owning}
 use Rattle.compiler.specs.Orders.{tasks_of, i_owning, j_owning}
 use Rattle.compiler.specs.Cells.{board_at, owns_at, takes_part}
 use Rattle.compiler.specs.Laws.{AllSound}
@@ -89,6 +90,16 @@ tasks_kept arrays s kept =
     All-append (TaskKept arrays s) (map Ship s.reads) (Base ∷ (map Add s.reads ++ (Store ∷ []))) ships
     (tt, All-append (TaskKept arrays s) (map Add s.reads) (Store ∷ []) adds (tt, tt))
 
+-- how long a dimension of an array is
+abbrev pub size_in : Dimension → Array → ℕ
+size_in Rows a = a.rows
+size_in Columns a = a.columns
+
+-- over how many boards of the grid it is dealt
+abbrev pub boards_in : Dimension → Grid → ℕ
+boards_in Rows g = g.rows
+boards_in Columns g = g.columns
+
 -- deals of maps that fit a nest
 module _ (g : Grid) (arrays : List Array) (deals : Deals) (fit : Fits g arrays deals) (sound : AllSound deals) where
   pub sound_at : (t : ℕ) → t < length arrays → Sound (rows_of deals t) × Sound (columns_of deals t)
@@ -115,53 +126,52 @@ module _ (g : Grid) (arrays : List Array) (deals : Deals) (fit : Fits g arrays d
       let turned : y * g.rows + x ≡ p = omega (arith, mul_comm g.rows y) in
       (sym (mod-mul-add y g.rows x o.0) ∙ ap (λ n. n % g.rows) turned, sym (div-mul-add y g.rows x o.0) ∙ ap (λ n. n / g.rows) turned)
 
-  -- spans by the rows and by the columns of an access that is kept
-  pub rows_fit : (p least : ℕ) (i j : Range) (a : Access) (v : Variable) → access_kept least arrays i j a ≡ true → a.row.variable ≡ v → 1 ≤ a.row.factor → (range_of v i j).low ≤ (range_of v i j).high
-      → SpanFits (seat g.rows deals p) (range_of v i j) (Some (owning_by Rows a))
-  rows_fit p least i j a v k by factor some =
-      let parts = access_parts least arrays i j a k in
-      let low = position a.row (range_of v i j).low in
-      let high = position a.row (range_of v i j).high in
-      let size = (get_or arrays a.array nowhere).rows in
-      let in-at : (leb 1 low && leb high size) ≡ true = ap (λ w. leb 1 (position a.row (range_of w i j).low) && leb (position a.row (range_of w i j).high) size) (sym by) ∙ parts.rows in
-      let ends = and_parts (leb 1 low) (leb high size) in-at in
-      let first = leb-true 1 low ends.0 in
-      record { some = some; rises = factor_rises a.row (range_of v i j).low factor first; low = first; high = omega (arith, leb-true high size ends.1, (fit.2 a.array parts.there).0.1) }
+  -- a dimension of an array is as long as its deal, and an access that is kept stays inside it
+  extent_in : (d : Dimension) (t : ℕ) → t < length arrays → extent (deal_in d deals t) ≡ size_in d (get_or arrays t nowhere)
+  extent_in Rows t h = (fit.2 t h).0.1
+  extent_in Columns t h = (fit.2 t h).1.1
 
-  pub columns_fit : (p least : ℕ) (i j : Range) (a : Access) (v : Variable) → access_kept least arrays i j a ≡ true → a.column.variable ≡ v → 1 ≤ a.column.factor → (range_of v i j).low ≤ (range_of v i j).high
-      → SpanFits (seat g.rows deals p) (range_of v i j) (Some (owning_by Columns a))
-  columns_fit p least i j a v k by factor some =
-      let parts = access_parts least arrays i j a k in
-      let low = position a.column (range_of v i j).low in
-      let high = position a.column (range_of v i j).high in
-      let size = (get_or arrays a.array nowhere).columns in
-      let in-at : (leb 1 low && leb high size) ≡ true = ap (λ w. leb 1 (position a.column (range_of w i j).low) && leb (position a.column (range_of w i j).high) size) (sym by) ∙ parts.columns in
+  kept_in : (d : Dimension) (least : ℕ) (i j : Range) (a : Access) → access_kept least arrays i j a ≡ true → inside i j (size_in d (get_or arrays a.array nowhere)) (subscript_in d a) ≡ true
+  kept_in Rows least i j a k = (access_parts least arrays i j a k).rows
+  kept_in Columns least i j a k = (access_parts least arrays i j a k).columns
+
+  -- a span by a dimension of an access that is kept
+  pub dimension_fits : (d : Dimension) (p least : ℕ) (i j : Range) (a : Access) (v : Variable) → access_kept least arrays i j a ≡ true → (subscript_in d a).variable ≡ v → 1 ≤ (subscript_in d a).factor
+      → (range_of v i j).low ≤ (range_of v i j).high → SpanFits (seat g.rows deals p) (range_of v i j) (Some (owning_by d a))
+  dimension_fits d p least i j a v k by factor some =
+      let s : Subscript = subscript_in d a in
+      let low = position s (range_of v i j).low in
+      let high = position s (range_of v i j).high in
+      let size = size_in d (get_or arrays a.array nowhere) in
+      let in-at : (leb 1 low && leb high size) ≡ true = ap (λ w. leb 1 (position s (range_of w i j).low) && leb (position s (range_of w i j).high) size) (sym by) ∙ kept_in d least i j a k in
       let ends = and_parts (leb 1 low) (leb high size) in-at in
       let first = leb-true 1 low ends.0 in
-      record { some = some; rises = factor_rises a.column (range_of v i j).low factor first; low = first; high = omega (arith, leb-true high size ends.1, (fit.2 a.array parts.there).1.1) }
+      record { some = some; rises = factor_rises s (range_of v i j).low factor first; low = first; high = omega (arith, leb-true high size ends.1, extent_in d a.array (access_parts least arrays i j a k).there) }
 
   -- the ship span of a variable
   pub ship_fits : (p least : ℕ) (i j : Range) (a : Access) (v : Variable) → access_kept least arrays i j a ≡ true → (range_of v i j).low ≤ (range_of v i j).high
       → SpanFits (seat g.rows deals p) (range_of v i j) (ship_owning v a)
   ship_fits p least i j a v k some =
       cond_both (moves_with v a.row) (Some (owning_by Rows a)) (cond (moves_with v a.column) (Some (owning_by Columns a)) None) (SpanFits (seat g.rows deals p) (range_of v i j))
-      (λ m. let by = moves_by v a.row m in rows_fit p least i j a v k by.0 by.1 some)
-      (λ _. cond_both (moves_with v a.column) (Some (owning_by Columns a)) None (SpanFits (seat g.rows deals p) (range_of v i j)) (λ m. let by = moves_by v a.column m in columns_fit p least i j a v k by.0 by.1 some) (λ _. tt))
+      (λ m. let by = moves_by v a.row m in dimension_fits Rows p least i j a v k by.0 by.1 some)
+      (λ _. cond_both (moves_with v a.column) (Some (owning_by Columns a)) None (SpanFits (seat g.rows deals p) (range_of v i j)) (λ m. let by = moves_by v a.column m in dimension_fits Columns p least i j a v k by.0 by.1 some) (λ _. tt))
 
   -- the board owns the loop values of an iteration whose element it owns
-  pub rows_owned : (p : ℕ) (a : Access) (e : Iteration) (v : Variable) → a.array < length arrays → a.row.variable ≡ v → owns_at (seat g.rows deals p) a e ≡ true → owns_value (seat g.rows deals p) (Some (owning_by Rows a)) (variable_in v e) ≡ true
-  rows_owned p a e v h by own =
-      eq-eqb (owner (rows_of deals a.array) (position a.row (variable_in v e))) (p % g.rows) (ap (λ w. owner (rows_of deals a.array) (position a.row (variable_in w e))) (sym by) ∙ (owners_split p a e h own).0)
+  owner_is : (d : Dimension) (p : ℕ) (a : Access) (e : Iteration) → a.array < length arrays → owns_at (seat g.rows deals p) a e ≡ true → owner (deal_in d deals a.array) (position_in (subscript_in d a) e) ≡ coordinate d g.rows p
+  owner_is Rows p a e h own = (owners_split p a e h own).0
+  owner_is Columns p a e h own = (owners_split p a e h own).1
 
-  pub columns_owned : (p : ℕ) (a : Access) (e : Iteration) (v : Variable) → a.array < length arrays → a.column.variable ≡ v → owns_at (seat g.rows deals p) a e ≡ true → owns_value (seat g.rows deals p) (Some (owning_by Columns a)) (variable_in v e) ≡ true
-  columns_owned p a e v h by own =
-      eq-eqb (owner (columns_of deals a.array) (position a.column (variable_in v e))) (p / g.rows) (ap (λ w. owner (columns_of deals a.array) (position a.column (variable_in w e))) (sym by) ∙ (owners_split p a e h own).1)
+  pub dimension_owned : (d : Dimension) (p : ℕ) (a : Access) (e : Iteration) (v : Variable) → a.array < length arrays → (subscript_in d a).variable ≡ v → owns_at (seat g.rows deals p) a e ≡ true
+      → owns_value (seat g.rows deals p) (Some (owning_by d a)) (variable_in v e) ≡ true
+  dimension_owned d p a e v h by own =
+      eq-eqb (owner (deal_in d deals a.array) (position (subscript_in d a) (variable_in v e))) (coordinate d g.rows p)
+      (ap (λ w. owner (deal_in d deals a.array) (position (subscript_in d a) (variable_in w e))) (sym by) ∙ owner_is d p a e h own)
 
   pub ship_owned : (p : ℕ) (a : Access) (e : Iteration) (v : Variable) → a.array < length arrays → owns_at (seat g.rows deals p) a e ≡ true → owns_value (seat g.rows deals p) (ship_owning v a) (variable_in v e) ≡ true
   ship_owned p a e v h own =
       cond_both (moves_with v a.row) (Some (owning_by Rows a)) (cond (moves_with v a.column) (Some (owning_by Columns a)) None) (λ k. owns_value (seat g.rows deals p) k (variable_in v e) ≡ true)
-      (λ m. rows_owned p a e v h (moves_by v a.row m).0 own)
-      (λ _. cond_both (moves_with v a.column) (Some (owning_by Columns a)) None (λ k. owns_value (seat g.rows deals p) k (variable_in v e) ≡ true) (λ m. columns_owned p a e v h (moves_by v a.column m).0 own) (λ _. refl))
+      (λ m. dimension_owned Rows p a e v h (moves_by v a.row m).0 own)
+      (λ _. cond_both (moves_with v a.column) (Some (owning_by Columns a)) None (λ k. owns_value (seat g.rows deals p) k (variable_in v e) ≡ true) (λ m. dimension_owned Columns p a e v h (moves_by v a.column m).0 own) (λ _. refl))
 
   -- of a statement that keeps its ranges
   module _ (s : Said) (kept : Parts arrays s) where
@@ -171,11 +181,11 @@ module _ (g : Grid) (arrays : List Array) (deals : Deals) (fit : Fits g arrays d
     -- its spans by the target
     by_put_rows : (p : ℕ) → SpanFits (seat g.rows deals p) s.i (Some (owning_by Rows s.put))
     by_put_rows p =
-        rows_fit p 1 s.i s.j s.put I kept.put (is_i_lem s.put.row.variable kept.by_i) (factor_of 1 s.put.row (access_parts 1 arrays s.i s.j s.put kept.put).row).0 (range_of_lem s.i kept.i).0
+        dimension_fits Rows p 1 s.i s.j s.put I kept.put (is_i_lem s.put.row.variable kept.by_i) (factor_of 1 s.put.row (access_parts 1 arrays s.i s.j s.put kept.put).row).0 (range_of_lem s.i kept.i).0
 
     by_put_columns : (p : ℕ) → SpanFits (seat g.rows deals p) s.j (Some (owning_by Columns s.put))
     by_put_columns p =
-        columns_fit p 1 s.i s.j s.put J kept.put (is_j s.put.column.variable kept.by_j) (factor_of 1 s.put.column (access_parts 1 arrays s.i s.j s.put kept.put).column).0 (range_of_lem s.j kept.j).0
+        dimension_fits Columns p 1 s.i s.j s.put J kept.put (is_j s.put.column.variable kept.by_j) (factor_of 1 s.put.column (access_parts 1 arrays s.i s.j s.put kept.put).column).0 (range_of_lem s.j kept.j).0
 
     -- the spans of every task fit
     pub i_fits : (p : ℕ) (t : Task) → TaskKept arrays s t → SpanFits (seat g.rows deals p) s.i (i_owning s t)
@@ -191,10 +201,10 @@ module _ (g : Grid) (arrays : List Array) (deals : Deals) (fit : Fits g arrays d
     j_fits p Store k = by_put_columns p
 
     put_i : (p : ℕ) (e : Iteration) → owns_at (seat g.rows deals p) s.put e ≡ true → owns_value (seat g.rows deals p) (Some (owning_by Rows s.put)) e.i ≡ true
-    put_i p e own = rows_owned p s.put e I put_there (is_i_lem s.put.row.variable kept.by_i) own
+    put_i p e own = dimension_owned Rows p s.put e I put_there (is_i_lem s.put.row.variable kept.by_i) own
 
     put_j : (p : ℕ) (e : Iteration) → owns_at (seat g.rows deals p) s.put e ≡ true → owns_value (seat g.rows deals p) (Some (owning_by Columns s.put)) e.j ≡ true
-    put_j p e own = columns_owned p s.put e J put_there (is_j s.put.column.variable kept.by_j) own
+    put_j p e own = dimension_owned Columns p s.put e J put_there (is_j s.put.column.variable kept.by_j) own
 
     source_there : (r : ReadTerm) → TaskKept arrays s (Ship r) → r.source.array < length arrays
     source_there r k = (access_parts 0 arrays s.i s.j r.source k).there

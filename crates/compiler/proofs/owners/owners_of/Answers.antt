@@ -4,8 +4,9 @@ use Rattle.nest.specs.Terms.{Sheet}
 use Rattle.nest.specs.Views.{said}
 use Rattle.sections.specs.MapTables.{tabled}
 use Rattle.sections.specs.Sections.{rows_of, columns_of}
+use Rattle.dealing.specs.declared.dimension.Dimension.TheVariants.{Rows, Columns}
 use Rattle.compiler.proofs.KeptStatements.{nest_kept_as}
-use Rattle.compiler.proofs.OwnerLookups.{array_there, rows_stay, columns_stay, tables_tell}
+use Rattle.compiler.proofs.OwnerLookups.{array_there, stays, tables_tell}
 use Rattle.compiler.proofs.owners.owners_of.Goals as goal
 
 pub unwrap-row_map-requires : goal.unwrap-row_map-requires
@@ -17,12 +18,12 @@ unwrap-row_map-requires c =
 pub new-requires : goal.new-requires
 new-requires c =
     let is : tabled c.unwrap-row_map.result.now ≡ rows_of c.args.fitted.now.deals c.args.access.array = search rules in
-    rows_stay c.args.fitted.now c.row_map.ensures.fitted (said c.args.statement.now) c.requires.some c.args.access c.requires.reaches _ is _ c.pick-row_range.ensures
+    stays c.args.fitted.now c.row_map.ensures.fitted (said c.args.statement.now) c.requires.some c.args.access c.requires.reaches Rows _ is _ c.pick-row_range.ensures
 
 pub new-requires-2 : goal.new-requires-2
 new-requires-2 c =
     let is : tabled c.unwrap-column_map.result.now ≡ columns_of c.args.fitted.now.deals c.args.access.array = search rules in
-    columns_stay c.args.fitted.now c.row_map.ensures.fitted (said c.args.statement.now) c.requires.some c.args.access c.requires.reaches _ is _ c.pick-column_range.ensures
+    stays c.args.fitted.now c.row_map.ensures.fitted (said c.args.statement.now) c.requires.some c.args.access c.requires.reaches Columns _ is _ c.pick-column_range.ensures
 
 pub returns : goal.returns
 returns c =
