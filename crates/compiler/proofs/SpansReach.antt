@@ -1,9 +1,9 @@
 -- The spans of a kept statement can be made: every position that a loop range reaches lies in its deal. Assumes nothing.
-use Rattle.std.proofs.Common.{◌≡◌, ℕ, zero, suc, ◌+◌, ◌*◌, ◌/◌, ◌%◌, ◌<◌, ◌≤◌, Bool, true, false, cond, not, leb, List, [], ◌∷◌, map, length, get_or, refl, ap, ◌∙◌, mul_comm, zero-mul, arith, Option, Some, None}
+use Rattle.std.proofs.Common.{◌≡◌, ℕ, zero, suc, ◌+◌, ◌*◌, ◌<◌, ◌≤◌, Bool, true, false, cond, leb, List, [], ◌∷◌, map, length, get_or, refl, ap, ◌∙◌, mul_comm, zero-mul, arith, Option, Some, None}
 use Rattle.std.proofs.lemmas.Nat.{div_below, mod_below}
 use Rattle.std.proofs.ByRecursion.{All-append}
 use Rattle.std.proofs.lemmas.Bool.{and_parts}
-use Rattle.nest.specs.Sound.{each, range_kept, access_kept, is_i, read_kept, statement_kept}
+use Rattle.nest.specs.Sound.{each, range_kept, access_kept, read_kept, statement_kept}
 use Rattle.nest.specs.Terms.{far, position, range_of, inside, nowhere, Said}
 use Rattle.nest.specs.declared.terms.Access.{Access}
 use Rattle.nest.specs.declared.terms.Range.{Range}
