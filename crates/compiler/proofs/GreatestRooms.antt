@@ -34,9 +34,6 @@ pub rooms_more : (mode : Mode) (boards : ℕ) (counts : List (List ℕ)) (from t
 rooms_more mode boards counts from to before after end so row =
     folded_joined_more max 0 (rooms_from mode boards counts) from before after so (row ∙ ap (λ n. fold max before (map (room_of mode counts from) (range_with_len 0 n))) end)
 
-pub rooms_all : (mode : Mode) (boards : ℕ) (counts : List (List ℕ)) (from all : ℕ) → from ≡ boards → all ≡ fold max 0 (flat_map (rooms_from mode boards counts) (range_with_len 0 from)) → all ≡ greatest_room mode boards counts
-rooms_all mode boards counts from all end so = so ∙ ap (λ n. fold max 0 (flat_map (rooms_from mode boards counts) (range_with_len 0 n))) end
-
 -- what agrees at every number counted
 map_like : {X : Type 0} (f g : ℕ → X) (a n : ℕ) → ((k : ℕ) → a ≤ k → k < a + n → f k ≡ g k) → map f (range_with_len a n) ≡ map g (range_with_len a n)
 map_like f g a zero same = refl

@@ -20,6 +20,5 @@ pub mod Tallying
 pub mod KeptStatements
 pub mod GreatestRooms
 pub mod StatementTotals
-pub mod ProgramLists
 pub mod ProgramKept
 pub mod Compiling

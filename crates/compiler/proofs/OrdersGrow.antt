@@ -1,7 +1,7 @@
 -- The orders of a board, statement after statement. Assumes nothing.
-use Rattle.std.proofs.Common.{◌≡◌, ℕ, ◌+◌, ◌<◌, ◌≤◌, true, List, [], ◌∷◌, ◌++◌, map, length, get_or, take, sym, ap, ◌∙◌, subst, arith}
+use Rattle.std.proofs.Common.{◌≡◌, ℕ, ◌+◌, ◌<◌, true, List, [], ◌∷◌, ◌++◌, map, length, get_or, take, sym, ap, ◌∙◌, subst, arith}
 use Rattle.std.specs.List.{flat_map}
-use Rattle.std.proofs.lemmas.List.{map_more, get_or-map, take_all, length-map, length-take-le, flat_map_more}
+use Rattle.std.proofs.lemmas.List.{map_more, get_or-map, length-map, length-take-le, flat_map_more}
 use Rattle.nest.specs.Sound.{each, statement_kept, nest_kept}
 use Rattle.nest.specs.Terms.{Said, Sheet}
 use Rattle.nest.specs.Views.{said}
@@ -38,9 +38,6 @@ module _ (b : Seat) where
         ∙ sym (orders_push (map said (take k items)) (said x) k long)
         ∙ ap (λ y. board_orders b (map said (take k items) ++ said y ∷ [])) is
         ∙ ap (board_orders b) (sym (map_more said items k x l))
-
-    pub orders_all : (vs : List Order) (ss : List Said) → length items ≤ k → map said items ≡ ss → vs ≡ board_orders b (map said (take k items)) → vs ≡ board_orders b ss
-    orders_all vs ss l same inv = inv ∙ ap (λ us. board_orders b (map said us)) (take_all k items l) ∙ ap (board_orders b) same
 
 -- each statement of a kept nest is kept
 pub statement_kept_lem : (n : Sheet) → nest_kept n.grid n.arrays n.sweeps n.statements ≡ true → (items : List Statement) → map said items ≡ n.statements

@@ -1,6 +1,6 @@
 use Rattle.std.proofs.Common.{◌≡◌, max, arith}
 use Rattle.compiler.specs.PairRooms.{room_of}
-use Rattle.compiler.proofs.GreatestRooms.{folded_map_more, rooms_more, rooms_all}
+use Rattle.compiler.proofs.GreatestRooms.{folded_map_more, rooms_more}
 use Rattle.compiler.proofs.depth.greatest_room.Goals as goal
 
 pub loop-to-preserved : goal.loop-to-preserved
@@ -12,8 +12,3 @@ pub loop-from-preserved : goal.loop-from-preserved
 loop-from-preserved c =
     let end : c.loop-to.to ≡ c.args.boards = omega arith in
     rooms_more c.args.mode c.args.boards c.args.pairs.now.counts c.loop-from.from c.loop-to.to c.loop-from.greatest c.loop-to.greatest end c.loop-from.invariant c.loop-to.invariant
-
-pub returns : goal.returns
-returns c =
-    let end : c.loop-from.from ≡ c.args.boards = omega arith in
-    rooms_all c.args.mode c.args.boards c.args.pairs.now.counts c.loop-from.from c.loop-from.greatest end c.loop-from.invariant

@@ -1,36 +1,27 @@
 use Rattle.std.proofs.Common.{◌≡◌, ◌+◌, ◌*◌, length, ap, arith}
 use Rattle.nest.specs.Terms.{Said}
 use Rattle.nest.specs.Views.{said}
-use Rattle.compiler.proofs.KeptStatements.{short_ranges, few_reads, target_reaches, read_reaches}
+use Rattle.compiler.proofs.KeptStatements.{few_reads, target_reaches, read_reaches}
 use Rattle.compiler.proofs.LetterNotes.{at_most_wider}
 use Rattle.compiler.proofs.Tallying.{tallied_none, at_most_none, tallied_read, tallied_all, tallied_pairs}
 use Rattle.compiler.proofs.letters.letters_in.Goals as goal
 
-pub owners_of-target-requires : goal.owners_of-target-requires
-owners_of-target-requires c =
-    let s : Said = said c.args.statement.now in
-    let short = short_ranges c.args.fitted.now.nest.arrays s c.requires in
-    record { some = (short.0.1, short.1.1); reaches = target_reaches c.args.fitted.now.nest.arrays s c.requires }
+pub owners_of-target-requires-clause-reaches : goal.owners_of-target-requires-clause-reaches
+owners_of-target-requires-clause-reaches c = target_reaches c.args.fitted.now.nest.arrays (said c.args.statement.now) c.requires
 
-pub owners_of-source-requires : goal.owners_of-source-requires
-owners_of-source-requires c =
-    let s : Said = said c.args.statement.now in
-    let short = short_ranges c.args.fitted.now.nest.arrays s c.requires in
-    record {
-      some = (short.0.1, short.1.1);
-      reaches = read_reaches c.args.fitted.now.nest.arrays s c.requires c.as_slice-reads.result.now c.as_slice-reads.ensures.value c.loop-read.read-index _ c.loop-read-test.true;
-    }
+pub owners_of-source-requires-clause-reaches : goal.owners_of-source-requires-clause-reaches
+owners_of-source-requires-clause-reaches c =
+    read_reaches c.args.fitted.now.nest.arrays (said c.args.statement.now) c.requires c.as_slice-reads.result.now c.as_slice-reads.ensures.value c.loop-read.read-index _ c.loop-read-test.true
 
-pub note_read-requires : goal.note_read-requires
-note_read-requires c =
+pub note_read-requires-clause-room : goal.note_read-requires-clause-room
+note_read-requires-clause-room c =
     let s : Said = said c.args.statement.now in
     let few = few_reads c.args.fitted.now.nest.arrays s c.requires in
     let same : length c.as_slice-reads.result.now ≡ length s.reads = ap length c.as_slice-reads.ensures.value in
-    record {
-      room = at_most_wider (1024 * c.loop-read.read-index) 3072 c.loop-read.count (omega (arith, c.loop-read-test.true)) c.loop-read.invariant.1;
-      short = short_ranges c.args.fitted.now.nest.arrays s c.requires;
-      answer = λ e w. ((c.owners_of-source.ensures e w).0, (c.owners_of-target.ensures e w).0);
-    }
+    at_most_wider (1024 * c.loop-read.read-index) 3072 c.loop-read.count (omega (arith, c.loop-read-test.true)) c.loop-read.invariant.1
+
+pub note_read-requires-clause-answer : goal.note_read-requires-clause-answer
+note_read-requires-clause-answer c = λ e w. ((c.owners_of-source.ensures e w).0, (c.owners_of-target.ensures e w).0)
 
 pub loop-read-init : goal.loop-read-init
 loop-read-init c =

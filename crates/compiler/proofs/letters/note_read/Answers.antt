@@ -1,17 +1,11 @@
 use Rattle.std.proofs.Common.{◌≡◌, ◌+◌, arith}
 use Rattle.nest.specs.Views.{said}
-use Rattle.sequential.proofs.Turns.{row_more, rows_more, rows_all}
+use Rattle.sequential.proofs.Turns.{row_more, rows_more}
 use Rattle.sequential.specs.Ready.{Within}
 use Rattle.sequential.specs.declared.iteration.Iteration.{Iteration}
 use Rattle.compiler.specs.LetterCounts.{noting}
 use Rattle.compiler.proofs.LetterNotes.{at_most_wider, at_most_more, noting_more}
 use Rattle.compiler.proofs.letters.note_read.Goals as goal
-
-pub board-requires : goal.board-requires
-board-requires c =
-    let e : Iteration = record { i = c.loop-i.i; j = c.loop-j.j } in
-    let w : Within (said c.args.statement.now) e = (c.loop-i.auto.i, omega arith, c.loop-j.auto.j, omega arith) in
-    (c.requires.answer e w).0
 
 pub note-requires : goal.note-requires
 note-requires c =
@@ -39,10 +33,5 @@ loop-i-preserved c =
       λ n a. at_most_wider _ _ c.loop-j.count (omega (arith, c.requires.short, c.loop-i.auto.i)) (c.loop-j.invariant.1 _ (c.loop-i.invariant.1 n a)),
     )
 
-pub returns : goal.returns
-returns c =
-    let end : c.loop-i.i ≡ c.args.statement.now.i.high + 1 = omega arith in
-    record {
-      noted = rows_all (noting c.args.source.now c.args.target.now) c.args.count.now c.args.statement.now.i c.args.statement.now.j c.loop-i.i c.loop-i.count end c.loop-i.invariant.0;
-      room = λ n a. at_most_wider _ _ c.loop-i.count (omega (arith, c.requires.short)) (c.loop-i.invariant.1 n a);
-    }
+pub returns-clause-room : goal.returns-clause-room
+returns-clause-room c = λ n a. at_most_wider _ _ c.loop-i.count (omega (arith, c.requires.short)) (c.loop-i.invariant.1 n a)

@@ -1,11 +1,8 @@
 use Rattle.std.proofs.Common.{vec_items, ap, ◌∙◌}
 use Rattle.nest.specs.Terms.{Sheet}
-use Rattle.compiler.specs.Seats.{seat_of, statements_of}
-use Rattle.compiler.proofs.OrdersGrow.{orders_more, orders_all, statement_kept_lem}
+use Rattle.compiler.specs.Seats.{seat_of}
+use Rattle.compiler.proofs.OrdersGrow.{orders_more, statement_kept_lem}
 use Rattle.compiler.proofs.view.BoardView.orders.Goals as goal
-
-pub loop-number-init : goal.loop-number-init
-loop-number-init c = c.new-orders.ensures.items
 
 pub push_orders-requires : goal.push_orders-requires
 push_orders-requires c =
@@ -16,8 +13,3 @@ push_orders-requires c =
 pub loop-number-preserved : goal.loop-number-preserved
 loop-number-preserved c =
     orders_more (seat_of c.args.self.now) c.statements-statement-items.result.now c.loop-number.number c.statement-item.result (vec_items c.loop-number.orders) (vec_items c.push_orders.new.orders) c.loop-number-test.true c.statement-item.is c.loop-number.invariant c.in_ok-push_orders.ensures
-
-pub returns : goal.returns
-returns c =
-    orders_all (seat_of c.args.self.now) c.statements-statement-items.result.now c.loop-number.number (vec_items c.loop-number.orders) (statements_of c.args.self.now) c.loop-number-test.false
-    (c.statements-statement-items.ensures ∙ ap (λ (m : Sheet). m.statements) c.nest.ensures.nest) c.loop-number.invariant

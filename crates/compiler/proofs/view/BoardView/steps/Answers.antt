@@ -1,14 +1,13 @@
-use Rattle.std.proofs.Common.{◌≡◌, ◌+◌, ◌*◌, ◌≤◌, List, length, sym, ap, ◌∙◌, subst, ap₂, mul-le-mul, arith}
+use Rattle.std.proofs.Common.{◌≡◌, ◌*◌, ◌≤◌, List, length, sym, ap, ◌∙◌, subst, ap₂, mul-le-mul, arith}
 use Rattle.std.proofs.ByRecursion.{All-get_or}
 use Rattle.std.proofs.lemmas.List.{take_all}
-use Rattle.std.proofs.lemmas.List.Sums.{sum_by_more}
 use Rattle.nest.proofs.Keeps.{nest_parts}
 use Rattle.nest.specs.Terms.{Sheet}
 use Rattle.compiler.specs.declared.order.Order.{Order}
 use Rattle.compiler.specs.declared.view.BoardView.{BoardView}
 use Rattle.compiler.specs.Orders.{board_orders}
 use Rattle.compiler.specs.Seats.{seat_of, statements_of}
-use Rattle.compiler.specs.StepCounts.{Short, FewOrders, step_count, step_counts}
+use Rattle.compiler.specs.StepCounts.{Short, FewOrders, step_counts}
 use Rattle.compiler.proofs.CellCounts.{sweep_counted}
 use Rattle.compiler.proofs.OrdersShort.{board_orders_few}
 use Rattle.compiler.proofs.view.BoardView.steps.Goals as goal
@@ -24,12 +23,6 @@ order_steps-steps-requires c =
 pub overflow_add-steps : goal.overflow_add-steps
 overflow_add-steps c =
     omega (arith, c.loop-order.invariant.1, c.order_steps-steps.ensures.small, c.loop-order-test.true, (few c.args.self.now c.args.orders.now c.requires).0)
-
-pub loop-order-preserved : goal.loop-order-preserved
-loop-order-preserved c = (
-  ap₂ (λ m n. m + n) c.loop-order.invariant.0 c.order_steps-steps.ensures.value ∙ sym (sum_by_more (step_count (statements_of c.args.self.now)) c.args.orders.now c.loop-order.order-index _ c.loop-order-test.true),
-  omega (arith, c.loop-order.invariant.1, c.order_steps-steps.ensures.small),
-)
 
 -- sweeps times the steps of one sweep is a small number
 small : (c : goal.After-sweeps) → c.sweeps.result * c.loop-order.steps ≤ 871200000
