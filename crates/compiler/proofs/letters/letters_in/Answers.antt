@@ -1,7 +1,7 @@
 use Rattle.std.proofs.Common.{◌≡◌, ◌+◌, ◌*◌, length, ap, arith}
 use Rattle.nest.specs.Terms.{Said}
 use Rattle.nest.specs.Views.{said}
-use Rattle.compiler.proofs.KeptStatements.{few_reads, target_reaches, read_reaches}
+use Rattle.compiler.proofs.KeptStatements.{short_ranges, few_reads, target_reaches, read_reaches}
 use Rattle.compiler.proofs.LetterNotes.{at_most_wider}
 use Rattle.compiler.proofs.Tallying.{tallied_none, at_most_none, tallied_read, tallied_all, tallied_pairs}
 use Rattle.compiler.proofs.letters.letters_in.Goals as goal
@@ -19,6 +19,9 @@ note_read-requires-clause-room c =
     let few = few_reads c.args.fitted.now.nest.arrays s c.requires in
     let same : length c.as_slice-reads.result.now ≡ length s.reads = ap length c.as_slice-reads.ensures.value in
     at_most_wider (1024 * c.loop-read.read-index) 3072 c.loop-read.count (omega (arith, c.loop-read-test.true)) c.loop-read.invariant.1
+
+pub note_read-requires-clause-short : goal.note_read-requires-clause-short
+note_read-requires-clause-short c = short_ranges c.args.fitted.now.nest.arrays (said c.args.statement.now) c.requires
 
 pub note_read-requires-clause-answer : goal.note_read-requires-clause-answer
 note_read-requires-clause-answer c = λ e w. ((c.owners_of-source.ensures e w).0, (c.owners_of-target.ensures e w).0)
