@@ -44,7 +44,7 @@ impl Course<'_> {
 
     /// Where a board stands at the start of a sweep.
     fn sweep_start(&self, sweep: usize) -> Option<Place>
-        ensures todo { Leaves (shown self.now.nest.now) self.now.orders.now result (λ b. again ((shown self.now.nest.now).sweeps - sweep) (flat_map (deeds_of b (shown self.now.nest.now)) self.now.orders.now)) }
+        ensures todo { let n = shown self.now.nest.now in let orders = self.now.orders.now in Leaves n orders result (λ b. again (n.sweeps - sweep) (flat_map (deeds_of b n) orders)) }
         ensures there { StandsIn (shown self.now.nest.now) self.now.orders.now result }
     {
         if sweep >= self.nest.sweeps() {
@@ -57,7 +57,7 @@ impl Course<'_> {
     /// Where a board stands before an order of a sweep.
     pub(crate) fn orders_from(&self, sweep: usize, from: usize) -> Option<Place>
         requires { sweep < (shown self.now.nest.now).sweeps }
-        ensures todo { Leaves (shown self.now.nest.now) self.now.orders.now result (λ b. sweeps_left b (shown self.now.nest.now) self.now.orders.now sweep from) }
+        ensures todo { let n = shown self.now.nest.now in let orders = self.now.orders.now in Leaves n orders result (λ b. sweeps_left b n orders sweep from) }
         ensures there { StandsIn (shown self.now.nest.now) self.now.orders.now result }
     {
         match first_with_cells(self.orders, from) {
@@ -68,7 +68,7 @@ impl Course<'_> {
 
     /// Where a board stands at first: before the first cell of the first order that has one, in sweep 0.
     pub fn first(&self) -> Option<Place>
-        ensures todo { (b : Seat) → todo_of b (shown self.now.nest.now) self.now.orders.now result ≡ again (shown self.now.nest.now).sweeps (flat_map (deeds_of b (shown self.now.nest.now)) self.now.orders.now) }
+        ensures todo { let n = shown self.now.nest.now in let orders = self.now.orders.now in (b : Seat) → todo_of b n orders result ≡ again n.sweeps (flat_map (deeds_of b n) orders) }
         ensures there { StandsIn (shown self.now.nest.now) self.now.orders.now result }
     {
         self.sweep_start(0)

@@ -11,7 +11,7 @@ use crate::place::Place;
 impl Course<'_> {
     /// Where a board stands after the step at a place; at none for a place that is not the program's.
     pub fn after(&self, at: Place) -> Option<Place>
-        ensures step { in_program (shown self.now.nest.now) self.now.orders.now at ≡ true → (b : Seat) → todo_from b (shown self.now.nest.now) self.now.orders.now at ≡ deed_at b (shown self.now.nest.now) self.now.orders.now at ∷ todo_of b (shown self.now.nest.now) self.now.orders.now result }
+        ensures step { let n = shown self.now.nest.now in let orders = self.now.orders.now in in_program n orders at ≡ true → (b : Seat) → todo_from b n orders at ≡ deed_at b n orders at ∷ todo_of b n orders result }
         ensures outside { in_program (shown self.now.nest.now) self.now.orders.now at ≡ false → result ≡ None }
         ensures there { StandsIn (shown self.now.nest.now) self.now.orders.now result }
     {
