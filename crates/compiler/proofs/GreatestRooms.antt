@@ -3,11 +3,10 @@ use Rattle.std.proofs.Common.{◌≡◌, ℕ, zero, suc, ◌+◌, ◌<◌, ◌�
 use Rattle.std.specs.List.{range_with_len, flat_map}
 use Rattle.std.proofs.lemmas.List.FromFn.{map-range_with_len_more, get_or-map-range_with_len}
 use Rattle.std.proofs.lemmas.List.{map-id, flat_map_more}
-use Rattle.std.proofs.lemmas.List.Sums.{fold_push}
+use Rattle.std.proofs.lemmas.List.Sums.{fold_push, fold-append}
 use Rattle.nest.specs.Terms.{Said, Sheet}
 use Rattle.nest.specs.declared.terms.Mode.{Mode}
 use Rattle.sections.specs.Sections.{Deals}
-use Rattle.sequential.proofs.Turns.{folded_append}
 use Rattle.compiler.specs.Compiled.{pairs_of}
 use Rattle.compiler.specs.LetterCounts.{count_at}
 use Rattle.compiler.specs.PairRooms.{room_of, rooms_from, greatest_room}
@@ -25,7 +24,7 @@ folded_map_more f b g n x before after so is step =
 -- a fold over one row of numbers more
 pub folded_joined_more : {B : Type 0} (f : B → ℕ → B) (b : B) (row : ℕ → List ℕ) (n : ℕ) (before after : B) → before ≡ fold f b (flat_map row (range_with_len 0 n)) → after ≡ fold f before (row n) → after ≡ fold f b (flat_map row (range_with_len 0 (n + 1)))
 folded_joined_more f b row n before after so step =
-    step ∙ ap (λ t. fold f t (row n)) so ∙ sym (folded_append f b (flat_map row (range_with_len 0 n)) (row n))
+    step ∙ ap (λ t. fold f t (row n)) so ∙ sym (fold-append f b (flat_map row (range_with_len 0 n)) (row n))
     ∙ ap (fold f b) (flat_map_more row [] (range_with_len 0 n) n ∙ ap (flat_map row) (sym (counting_more n)))
 
 -- the rooms from one board more

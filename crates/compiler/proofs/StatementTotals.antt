@@ -8,7 +8,7 @@ use Rattle.nest.specs.Views.{said}
 use Rattle.nest.specs.declared.terms.Array.{Array}
 use Rattle.nest.specs.declared.terms.Statement.{Statement}
 use Rattle.sections.specs.Sections.{Deals}
-use Rattle.sequential.proofs.Kept.{each_at}
+use Rattle.nest.proofs.Keeps.{each_at}
 use Rattle.compiler.specs.declared.letters.LetterCount.{LetterCount}
 use Rattle.compiler.specs.declared.parts.PairLetters.{PairLetters}
 use Rattle.compiler.specs.Compiled.{counts_of, pairs_of}
@@ -22,7 +22,7 @@ use Rattle.compiler.proofs.GreatestRooms.{depth_is}
 pub item_kept : (arrays : List Array) (items : List Statement) (n : ℕ) (item : Statement) → each (statement_kept arrays) (map said items) ≡ true → n < length items → item ≡ get_or items n item → statement_kept arrays (said item) ≡ true
 item_kept arrays items n item all below is =
     let lies : get_or (map said items) n (said item) ≡ said item = get_or-map said items n item (said item) below ∙ ap said (sym is) in
-    ap (statement_kept arrays) (sym lies) ∙ each_at (statement_kept arrays) (map said items) n (said item) all (rw (length-map items said) below)
+    ap (statement_kept arrays) (sym lies) ∙ each_at (statement_kept arrays) (map said items) all n (said item) (rw (length-map items said) below)
 
 said_more : (items : List Statement) (n : ℕ) (item : Statement) → n < length items → item ≡ get_or items n item → map said (take (n + 1) items) ≡ map said (take n items) ++ said item ∷ []
 said_more items n item below is = map_more said items n item below ∙ ap (λ x. map said (take n items) ++ said x ∷ []) (sym is)
