@@ -51,7 +51,7 @@ impl<'a, T> Belt<'a, T> {
             .count()
     }
 
-    /// The index of the first slot that holds a letter of the pair.
+    /// The index of the first of the `used` slots that holds a letter of the pair.
     fn first_of(&self, pair: Pair) -> Option<usize>
         ensures { FirstOf pair.from pair.to (take self.now.used self.now.slots.now) result }
     {

@@ -78,7 +78,7 @@ where
     }
 }
 
-/// Reads calls up to the end of the case; it is none where there are too many.
+/// Reads calls up to the end of the line, which is no case where a word is not of its form or there are too many.
 fn read_calls<T: Numeral>(
     heap: Global,
     words: &mut SplitWhitespace<'_>,

@@ -47,6 +47,7 @@ pub enum Variable {
 }
 
 /// What a subscript adds to a multiple of its variable.
+// Kept: positions are natural numbers; with a signed number every contract above would speak of two kinds of number.
 #[derive(Clone, Copy, PartialEq, Eq, Debug)]
 pub enum Offset {
     Plus(usize),

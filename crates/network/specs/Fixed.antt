@@ -4,8 +4,8 @@ use Rattle.network.specs.Network.{Network, State}
 use Rattle.network.specs.Request.{request}
 use Rattle.network.specs.Runs.{Asked}
 
--- The network that the boards are, the depth of its rows, and the ghost names of what they hold by reference: these stay, so
--- that its lender learns what became of it.
+-- The network that the boards are, the depth of its rows, and the ghost names of what they hold by reference: that these names
+-- stay is how a lender learns what became of the memory lent.
 pub record Fixed (L S : Type 0) : Type 0 where
   pub network : Network L S
   pub depth : ℕ

@@ -36,7 +36,7 @@ impl Tally {
 }
 
 /// Asks every board once, in turn.
-// Kept: a loop beside that of `ask_all`, since one over any iterator of requests would have to bound how many items it gives.
+// Kept: a loop beside that of `ask_all`; one for both would be no plainer, as its contract has to bound what an iterator gives.
 fn round<N: Boards>(boards: &mut N) -> Tally
     ensures came_to { let before = N.fixed boards.old in CameTo (asks before) (N.state boards.old) (in_turn before.network.boards) result.ran result.ended (N.state boards.new) }
     ensures same { N.fixed boards.new ≡ N.fixed boards.old }

@@ -9,6 +9,7 @@ use crate::answer::Answer;
 use crate::boards::Boards;
 use crate::desk::Desk;
 use crate::driver::run_until_quiet;
+
 /// One board of the relay.
 #[derive(Clone, Copy, PartialEq, Eq, Debug)]
 pub enum Station {

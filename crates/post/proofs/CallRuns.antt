@@ -56,9 +56,6 @@ module _ {V : Type 0} where
     conserved = subst₂ (Conserved m (take k calls)) (sym a) (sym b) (conserved m (take k calls));
   }
 
-  pub answered_none : (m : Mail V) (calls : List (Call V)) (before : List (Result (Reply V) PostRefusal)) → Answered m calls before before m 0
-  answered_none m calls before = made m calls before before m 0 refl refl refl
-
   pub answered_more :
       {m now next : Mail V} {calls : List (Call V)} {before replies : List (Result (Reply V) PostRefusal)} {k : ℕ} (c : Call V) (r : Result (Reply V) PostRefusal) →
       Answered m calls before replies now k → k < length calls → k < length replies → c ≡ get_or calls k c → said r ≡ answer_of now c → next ≡ after_call now c →

@@ -6,7 +6,7 @@ ghost use Rattle.sequential.specs.Refusals.{refusal_number};
 #[derive(Clone, Copy, PartialEq, Eq, Debug)]
 pub enum RunRefusal {
     /// A buffer has not the length of all arrays together, or there are not eight coefficients.
-    WrongLength,
+    WrongLength = 8,
 }
 
 impl RunRefusal {
@@ -14,8 +14,6 @@ impl RunRefusal {
     pub fn number(self) -> usize
         ensures { result ≡ refusal_number self }
     {
-        match self {
-            RunRefusal::WrongLength => 8,
-        }
+        self as usize
     }
 }

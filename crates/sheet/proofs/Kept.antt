@@ -45,19 +45,11 @@ got_same e = cc
 fine_same : {V : Type 0} {v w : V} → fine v ≡ fine w → v ≡ w
 fine_same e = cc
 
--- the tests that a verdict passed
-one_test : {V : Type 0} (a : Bool) (x : Verdict V) (l m n : ℕ) (v : V) → cond a x (wrong l m n) ≡ fine v → (a ≡ true) × (x ≡ fine v)
-one_test true x l m n v e = (refl, e)
-one_test false x l m n v e = absurd (cc)
-
 pub within_kept : (low high : ℕ) (p : Piece) (v : ℕ) → within low high p ≡ fine v → between low high v ≡ true
 within_kept low high p v e = grind (arith, common_steps)
 
 upper : (low high n : ℕ) → between low high n ≡ true → leb n high ≡ true
 upper low high n k = grind (arith, common_steps)
-
-offset_kept : (p : Piece) (c : Offset) → offset_of p ≡ fine c → leb (far c) 64 ≡ true
-offset_kept p c e = grind (arith, common_steps)
 
 map_kept_lem : (p : Piece) (m : MapWord) → map_of p ≡ fine m → map_kept m ≡ true
 map_kept_lem p m e = grind (arith, common_steps)

@@ -18,6 +18,7 @@ pub(crate) fn read_fields<'a>(
     ensures { answer (λ _. map part_of fields.new) result cursor.new ≡ fields_behind 61 kinds.now (before cursor.old) }
 {
     let mut lead = b'=';
+    // Kept: an index, since after a loop over `fields.iter_mut()` a proof knows no more of the fields than their number.
     for (i, kind) in kinds.iter().enumerate() {
         fields[i] = cursor.field(lead, *kind)?;
         lead = b',';

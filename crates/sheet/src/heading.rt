@@ -1,5 +1,4 @@
 // What a `stmt` line says.
-ghost use Rattle.std.specs.Prelude.{◌≤◌};
 ghost use Rattle.sheet.specs.Verdicts.{Short};
 
 use nest::terms::{Mode, Range};

@@ -2,7 +2,7 @@
 ghost use Rattle.std.specs.Prelude.{◌≡◌, ℕ, ◌-◌, ◌≤◌, length, IfOk};
 ghost use Rattle.tokens.specs.Views.{part_of};
 ghost use Rattle.nest.specs.Terms.{far, position, pick, inside};
-ghost use Rattle.sheet.specs.Verdicts.{Short, Near, within, offset_of, subscript_of, map_of, mode_of, variable_of, range_from, access_of};
+ghost use Rattle.sheet.specs.Verdicts.{Near, within, offset_of, subscript_of, map_of, mode_of, variable_of, range_from, access_of};
 ghost use Rattle.sheet.specs.Answered.{field_verdict, nest_verdict};
 
 use crate::heading::Heading;

@@ -1,7 +1,7 @@
 // The values that the fields of a line stand for, or the first of the faults that a form allows.
 ghost use Rattle.std.specs.Prelude.{◌≡◌, map};
 ghost use Rattle.tokens.specs.Views.{part_of};
-ghost use Rattle.sheet.specs.Verdicts.{Short, grid_of, array_of, head_of, put_of, read_of};
+ghost use Rattle.sheet.specs.Verdicts.{grid_of, array_of, head_of, put_of, read_of};
 ghost use Rattle.sheet.specs.Answered.{field_verdict, sheet_verdict};
 ghost use Rattle.sheet.specs.Heads.{headed};
 

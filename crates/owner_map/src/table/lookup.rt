@@ -1,5 +1,3 @@
-ghost use Rattle.std.specs.Prelude.{◌≡◌};
-ghost use Rattle.owner_map.specs.Meaning.{tally, seek};
 ghost use Rattle.owner_map.specs.TableDeal.{table_deal};
 
 use super::OwnerTable;
