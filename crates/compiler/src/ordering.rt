@@ -14,6 +14,7 @@ use std::alloc::{AllocError, Global};
 
 impl<'a> BoardView<'a> {
     /// The order for one task of a statement.
+    // Kept: a statement and its number apart, as `enumerate` gives them; a struct of the two would be no plainer.
     fn task_order(&self, number: usize, statement: &Statement, task: Task) -> Order
         requires { Orderable (seat_of self.now) (said statement.now) task }
         ensures { result ≡ task_order (seat_of self.now) number (said statement.now) task }

@@ -6,6 +6,7 @@ use crate::refusal::Refusal;
 
 /// What everything above a map may ask of it. A question changes nothing, and one outside its numbers
 /// is refused.
+// Kept: a board and a rank, or a bound, as two numbers; no call hands the two on as one.
 pub trait OwnerMap {
     /// The deal that the map stands for.
     ghost meaning: { Self → Deal };

@@ -32,6 +32,7 @@ fn prepared<'a, R: OwnerMap, C: OwnerMap>(
 }
 
 /// Moves every element of the arrays to its place in the sections.
+// Kept: nest and maps apart in public calls, whose callers have them so; behind the call they are one `Fitted`.
 pub fn scatter<T: Copy, R: OwnerMap, C: OwnerMap>(
     nest: &Nest,
     row_maps: &[R],

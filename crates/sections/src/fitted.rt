@@ -46,6 +46,7 @@ impl<'a> Fitted<'a> {
     }
 
     /// The nest.
+    // Kept: the invariant as a clause of three calls, since other crates see a model's value and not its invariant.
     pub fn nest(&self) -> &'a Nest
         ensures nest { shown result.now ≡ self.now.nest }
         ensures fitted { IsFitted self.now }

@@ -59,6 +59,7 @@ fn heading_line(cursor: &mut Cursor) -> Result<Heading, SheetFault>
     heading_of(fields)
 }
 
+// Kept: cursor, arrays and heading apart; each is there only once the lines before it are read.
 fn put_line(cursor: &mut Cursor, arrays: &[Array], heading: Heading) -> Result<Access, SheetFault>
     ensures { sheet_answer (λ v. v) result cursor.new ≡ line_by put_form (put_of arrays.now (headed heading)) (before cursor.old) }
 {

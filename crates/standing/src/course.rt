@@ -7,6 +7,7 @@ use compiler::order::Order;
 use nest::nest::Nest;
 
 /// A nest, and the orders of a board for it, in which the board goes through each sweep.
+// Kept: that a place is one of the course's is a clause (`StandsIn`); a place is public, and names no course.
 #[derive(Clone, Copy)]
 pub struct Course<'a> {
     pub nest: &'a Nest,
