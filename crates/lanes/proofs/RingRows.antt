@@ -1,17 +1,17 @@
 -- What a changed ring and a changed letter mean for the rows of the lanes. Assumes nothing.
-use Rattle.std.proofs.Common.{◌≡◌, ℕ, zero, suc, ◌+◌, ◌-◌, ◌*◌, ◌<◌, ◌≤◌, Bool, true, false, cond, ◌&&◌, ltb, ◌≢◌, List, [], ◌∷◌, ◌++◌, length, get_or, take, drop, set, replicate, sym, refl, ap, ◌∙◌, ap₂, Ok, arith}
-use Rattle.std.proofs.lemmas.List.{get_or-set_same, get_or-set_other, get_or-take, get_or-drop}
+use Rattle.std.proofs.Common.{◌≡◌, ℕ, zero, suc, ◌+◌, ◌*◌, ◌<◌, ◌≤◌, Bool, true, false, cond, ◌&&◌, ltb, ◌≢◌, List, [], ◌∷◌, ◌++◌, length, take, drop, set, replicate, sym, refl, ap, ◌∙◌, ap₂, Ok, ◌==◌, arith, length-take, length-drop}
+use Rattle.std.proofs.lemmas.List.{get_or-set_same, get_or-set_other}
 use Rattle.std.proofs.lemmas.Bool.{and_parts, ltb-true}
 use Rattle.std.proofs.lemmas.Bool.Decides.{nat_tests}
 use Rattle.std.proofs.lemmas.Grind.{common_steps}
 use Rattle.lanes.specs.declared.lanes.Lanes.{Lanes}
 use Rattle.lanes.specs.declared.rings.Ring.{Ring}
 use Rattle.lanes.specs.Lanes.{Within, Placed, ring_at, no_ring, place, lane, in_ring, lanes_mail}
-use Rattle.post.specs.Mail.{Mail, letter, empty_post, with_row, after_put, oldest, take_answer, after_take}
+use Rattle.post.specs.Mail.{Mail, empty_post, with_row, after_put, after_take}
 use Rattle.post.proofs.Mails.{one_row, same_mail}
-use Rattle.lanes.proofs.Turns.{ring_length, set_round, ring_more, ring_oldest, ring_next}
-use Rattle.post.proofs.Steps.{put_joins, take_oldest, take_drops}
-use Rattle.lanes.proofs.Places.{same_sender, same_receiver, lane_after, lane_length, lane_set, lane_other}
+use Rattle.lanes.proofs.Turns.{ring_length}
+use Rattle.post.proofs.Steps.{take_drops}
+use Rattle.lanes.proofs.Places.{same_sender, same_receiver, lane_after, lane_written, lane_other}
 
 -- a table of empty rings
 no_ring_at : (size k : ℕ) → ring_at (replicate size no_ring) k ≡ no_ring
@@ -50,6 +50,16 @@ module _ {V : Type 0} (n d p q pair : ℕ) (is : pair ≡ place n p q) (h : p < 
           let apart : place n s r ≢ pair = λ f. ne (same_sender n p q s r k inside (f ∙ is)) (same_receiver n p q s r k inside (f ∙ is)) in
           ap₂ in_ring (same-rings (place n s r) apart) (same-lanes (place n s r) apart)
 
+-- a row with itself in its place
+row_kept : {V : Type 0} (m : Mail V) (p q : ℕ) → with_row m p q (m.row p q) ≡ m
+row_kept m p q = sym (one_row m m p q (m.row p q) refl refl refl λ s r ne. refl)
+
+-- a put on a pair that is served, by the row that it leaves
+put_leaves :
+    {V : Type 0} (m : Mail V) (p q : ℕ) → p < m.boards → q < m.boards → (v : V) (vs : List V) →
+    vs ≡ cond (length (m.row p q) == m.depth) (m.row p q) (m.row p q ++ (v ∷ [])) → with_row m p q vs ≡ after_put m p q v
+put_leaves m p q h k v vs e = grind (arith, common_steps, nat_tests, row_kept m p q)
+
 -- lanes, and the place of a pair that is served
 module _ {V : Type 0} (l : Lanes V) (p q pair : ℕ) (at-place : Placed l.boards p q (Ok pair)) where
   abbrev n : ℕ
@@ -79,9 +89,6 @@ module _ {V : Type 0} (l : Lanes V) (p q pair : ℕ) (at-place : Placed l.boards
   abbrev mail : Mail V
   mail = lanes_mail n d rings letters
 
-  places : length (lane d letters pair) ≡ d
-  places = lane_length d letters pair (omega (arith, lane_after d pair (n * n) at-place.2, l.room))
-
   -- the table with another ring for the pair
   other_rings : (new : Ring) (j : ℕ) → j ≢ pair → ring_at (set rings pair new) j ≡ ring_at rings j
   other_rings new j ne = get_or-set_other rings pair j new no_ring ne
@@ -89,74 +96,39 @@ module _ {V : Type 0} (l : Lanes V) (p q pair : ℕ) (at-place : Placed l.boards
   new_ring : (new : Ring) → ring_at (set rings pair new) pair ≡ new
   new_ring new = get_or-set_same rings pair new no_ring (omega (arith, at-place.3, l.table))
 
-  pub row_length : length (mail.row p q) ≡ ring.count
-  row_length = ap length (row_of n d p q pair is h k rings letters) ∙ ring_length (lane d letters pair) ring (omega (arith, places, l.within pair))
+  -- the lane of the pair, as it is handed over
+  module _ (start deep : ℕ) (begins : start ≡ pair * d) (as-deep : deep ≡ d) where
+    abbrev handed : List V
+    handed = take deep (drop start letters)
 
-  -- a letter is written `count` places behind the first, round at the lane's end
-  module _
-      (v : V) (at spot : ℕ) (free : ring.count ≢ d) (at_below : at < d)
-      (round : at ≡ cond (ltb (ring.first + ring.count) d) (ring.first + ring.count) (ring.first + ring.count - d)) (spotted : spot ≡ pair * d + at)
-    where
-      count_below : ring.count < d
-      count_below = omega (arith, l.within pair)
+    room : pair * d + d ≤ length letters
+    room = omega (arith, lane_after d pair (n * n) at-place.2, l.room)
 
-      first_below : ring.first < d
-      first_below = (l.within pair).1 (omega (arith, count_below))
+    row_is : mail.row p q ≡ in_ring ring handed
+    row_is = row_of n d p q pair is h k rings letters ∙ ap₂ (λ x y. in_ring ring (take x (drop y letters))) (sym as-deep) (sym begins)
 
-      abbrev longer : Ring
-      longer = record { first = ring.first; count = ring.count + 1 }
+    handed_length : length handed ≡ d
+    handed_length = simp (length-take, length-drop) (omega (arith, room))
 
-      inside : ring.first ≤ length (lane d letters pair)
-      inside = omega (arith, first_below, places)
+    row_length : length (mail.row p q) ≡ ring.count
+    row_length = ap length row_is ∙ ring_length handed ring (omega (arith, handed_length, l.within pair))
 
-      ring_longer : in_ring (ring_at (set rings pair longer) pair) (lane d (set letters (pair * d + at) v) pair) ≡ mail.row p q ++ (v ∷ [])
-      ring_longer =
-          ap₂ in_ring (new_ring longer) (lane_set d letters pair at v at_below)
-          ∙ ring_more (lane d letters pair) ring.first inside ring.count v (set (lane d letters pair) at v) (omega (arith, places, count_below))
-          (set_round (lane d letters pair) ring.first inside d ring.count at v places count_below round)
-          ∙ ap (λ x. x ++ (v ∷ [])) (sym (row_of n d p q pair is h k rings letters))
+    -- another ring and other letters for the pair
+    module _ (new : Ring) (written : List V) (same : length written ≡ length handed) where
+      abbrev changed : Mail V
+      changed = lanes_mail n d (set rings pair new) (take start letters ++ (written ++ drop deep (drop start letters)))
 
-      pub lanes_put : lanes_mail n d (set rings pair longer) (set letters spot v) ≡ after_put mail p q v
-      lanes_put =
-          ap (λ i. lanes_mail n d (set rings pair longer) (set letters i v)) spotted
-          ∙ row_changed n d p q pair is h k rings (set rings pair longer) letters (set letters (pair * d + at) v) (mail.row p q ++ (v ∷ [])) ring_longer (other_rings longer)
-          (λ j ne. lane_other d letters pair j at v at_below ne)
-          ∙ put_joins mail p q h k v (λ e. free (sym row_length ∙ e))
+      pair_changed : changed ≡ with_row mail p q (in_ring new written)
+      pair_changed =
+          let long = same ∙ handed_length in
+          row_changed n d p q pair is h k rings (set rings pair new) letters _ (in_ring new written)
+          (ap₂ in_ring (new_ring new) (lane_written d pair start deep letters written begins as-deep room long))
+          (other_rings new) (lane_other d pair start deep letters written begins as-deep room long)
 
-  -- the letter at the first place is taken
-  module _
-      (x : V) (next spot : ℕ) (some : ring.count ≢ 0) (spotted : spot ≡ pair * d + ring.first) (read : x ≡ get_or letters spot x)
-      (round : next ≡ cond (ltb (ring.first + 1) d) (ring.first + 1) (ring.first + 1 - d))
-    where
-      abbrev shorter : Ring
-      shorter = record { first = next; count = ring.count - 1 }
+      pub lanes_put : (v : V) → in_ring new written ≡ cond (ring.count == length handed) (in_ring ring handed) (in_ring ring handed ++ (v ∷ [])) → changed ≡ after_put mail p q v
+      lanes_put v e =
+          pair_changed
+          ∙ put_leaves mail p q h k v (in_ring new written) (e ∙ λ i. cond (sym row_length i == handed_length i) (sym row_is i) (sym row_is i ++ (v ∷ [])))
 
-      first_inside : ring.first < d
-      first_inside = (l.within pair).1 (omega (arith, l.within pair))
-
-      oldest_inside : ring.first < length (lane d letters pair)
-      oldest_inside = omega (arith, first_inside, places)
-
-      oldest_letter : get_or (lane d letters pair) ring.first x ≡ x
-      oldest_letter = grind (arith, common_steps, get_or-take, get_or-drop)
-
-      abbrev rest : List V
-      rest = take (ring.count - 1) (drop (ring.first + 1) (lane d letters pair) ++ take ring.first (lane d letters pair))
-
-      row_split : mail.row p q ≡ x ∷ rest
-      row_split =
-          row_of n d p q pair is h k rings letters
-          ∙ ring_oldest (lane d letters pair) ring.first x oldest_inside d ring.count places (l.within pair).0 some
-          ∙ ap (λ y. y ∷ rest) oldest_letter
-
-      pub lanes_oldest : letter x ≡ take_answer mail p q
-      lanes_oldest = sym (ap oldest row_split) ∙ take_oldest mail p q h k
-
-      pub lanes_take : lanes_mail n d (set rings pair shorter) letters ≡ after_take mail p q
-      lanes_take =
-          row_changed n d p q pair is h k rings (set rings pair shorter) letters letters (drop 1 (mail.row p q))
-          (ap (λ r. in_ring r (lane d letters pair)) (new_ring shorter)
-          ∙ ring_next (lane d letters pair) ring.first x oldest_inside d ring.count places (l.within pair).0 some next round
-          ∙ sym (ap (drop 1) row_split))
-          (other_rings shorter) (λ j ne. refl)
-          ∙ take_drops mail p q h k
+      pub lanes_take : in_ring new written ≡ drop 1 (in_ring ring handed) → changed ≡ after_take mail p q
+      lanes_take e = pair_changed ∙ ap (with_row mail p q) (e ∙ sym (ap (drop 1) row_is)) ∙ take_drops mail p q h k

@@ -5,7 +5,7 @@ use Rattle.std.proofs.lemmas.List.{take-set-le, drop-set-lt, drop-set-add, take-
 use Rattle.std.proofs.lemmas.Bool.{cases_lt}
 use Rattle.std.proofs.lemmas.Bool.Decides.{nat_tests}
 use Rattle.lanes.specs.declared.rings.Ring.{Ring}
-use Rattle.lanes.specs.Lanes.{in_ring}
+use Rattle.lanes.specs.Lanes.{Fits, in_ring}
 
 -- the lane from its place `first` on, round to its start
 abbrev pub turned : {V : Type 0} → ℕ → List V → List V
@@ -31,23 +31,6 @@ module _ {V : Type 0} (places : List V) (first : ℕ) (inside : first ≤ length
       ∙ ap (λ i. drop first places ++ set (take first places) i v) (omega arith)
       ∙ sym (set-append_right (drop first places) (take first places) (length places - first) count v over (omega arith))
 
-  -- a lane of d places
-  module _ (d count at : ℕ) (v : V) (long : length places ≡ d) (below : count < d) (round : at ≡ cond (ltb (first + count) d) (first + count) (first + count - d)) where
-    pub set_round : turned first (set places at v) ≡ set (turned first places) count v
-    set_round = go (cases_lt (first + count) d)
-      where
-        go : (first + count < d) ⊎ (d ≤ first + count) → turned first (set places at v) ≡ set (turned first places) count v
-        go (inl l) =
-            let e : at ≡ first + count = grind (arith, nat_tests) in
-            ap (λ i. turned first (set places i v)) e ∙ set_before_end count v (omega arith)
-        go (inr l) =
-            let e : at + d ≡ first + count = grind (arith, nat_tests) in
-            set_past_end count at v (omega arith) (omega arith)
-
-  -- one letter more, at a place that is `count` behind the first
-  pub ring_more : (count : ℕ) (v : V) (changed : List V) → count < length places → turned first changed ≡ set (turned first places) count v → take (count + 1) (turned first changed) ≡ take count (turned first places) ++ (v ∷ [])
-  ring_more count v changed h e = ap (take (count + 1)) e ∙ take_more_set (turned first places) count v (omega (arith, turned_length places first))
-
 -- the letter at the first place is the oldest, and behind it come the letters of the ring that begins one place on
 module _ {V : Type 0} (places : List V) (first : ℕ) (x : V) (inside : first < length places) where
   pub oldest_first : turned first places ≡ get_or places first x ∷ (drop (first + 1) places ++ take first places)
@@ -68,20 +51,56 @@ module _ {V : Type 0} (places : List V) (first : ℕ) (x : V) (inside : first < 
       ∙ sym (take-take count first places (omega arith))
       ∙ ap (λ l. take count (l ++ take first places)) (sym (drop_all (first + 1) places (omega arith)))
 
-  -- a ring that is not empty, in a lane of d places
-  module _ (d count : ℕ) (long : length places ≡ d) (few : count ≤ d) (some : count ≢ 0) where
-    pub ring_oldest : take count (turned first places) ≡ get_or places first x ∷ take (count - 1) (drop (first + 1) places ++ take first places)
-    ring_oldest =
-        let more : count ≡ suc (count - 1) = omega arith in
-        ap₂ take more oldest_first
+-- a ring in a lane that it fits
+module _ {V : Type 0} (places : List V) (ring : Ring) (fits : Fits (length places) ring) where
+  abbrev d : ℕ
+  d = length places
 
-    pub ring_next : (next : ℕ) → next ≡ cond (ltb (first + 1) d) (first + 1) (first + 1 - d) → take (count - 1) (turned next places) ≡ take (count - 1) (drop (first + 1) places ++ take first places)
-    ring_next next round = go (cases_lt (first + 1) d)
+  abbrev first : ℕ
+  first = ring.first
+
+  abbrev count : ℕ
+  count = ring.count
+
+  -- a letter is written `count` places behind the first, round at the lane's end
+  module _ (at : ℕ) (v : V) (free : count ≢ d) (round : at ≡ cond (ltb (first + count) d) (first + count) (first + count - d)) where
+    first_below : first < d
+    first_below = fits.1 (omega (arith, fits.0))
+
+    set_round : turned first (set places at v) ≡ set (turned first places) count v
+    set_round = go (cases_lt (first + count) d)
       where
-        go : (first + 1 < d) ⊎ (d ≤ first + 1) → take (count - 1) (turned next places) ≡ take (count - 1) (drop (first + 1) places ++ take first places)
+        go : (first + count < d) ⊎ (d ≤ first + count) → turned first (set places at v) ≡ set (turned first places) count v
+        go (inl l) =
+            let e : at ≡ first + count = grind (arith, nat_tests) in
+            ap (λ i. turned first (set places i v)) e ∙ set_before_end places first (omega (arith, first_below)) count v l
+        go (inr r) =
+            let e : at + d ≡ first + count = grind (arith, nat_tests) in
+            set_past_end places first (omega (arith, first_below)) count at v e (omega (arith, fits.0))
+
+    pub ring_pushed : in_ring (record { first = first; count = count + 1 }) (set places at v) ≡ in_ring ring places ++ (v ∷ [])
+    ring_pushed = ap (take (count + 1)) set_round ∙ take_more_set (turned first places) count v (omega (arith, fits.0, turned_length places first))
+
+  -- the letter at the first place is taken, and the ring begins one place on, round at the lane's end
+  module _ (x : V) (next : ℕ) (some : count ≢ 0) (read : x ≡ get_or places first x) (round : next ≡ cond (ltb (first + 1) d) (first + 1) (first + 1 - d)) where
+    inside : first < d
+    inside = fits.1 (omega (arith, fits.0))
+
+    abbrev rest : List V
+    rest = take (count - 1) (drop (first + 1) places ++ take first places)
+
+    ring_next : take (count - 1) (turned next places) ≡ rest
+    ring_next = go (cases_lt (first + 1) d)
+      where
+        go : (first + 1 < d) ⊎ (d ≤ first + 1) → take (count - 1) (turned next places) ≡ rest
         go (inl l) =
             let is : next ≡ first + 1 = grind (arith, nat_tests) in
-            ap (λ i. take (count - 1) (turned i places)) is ∙ next_inside (count - 1) (omega arith)
-        go (inr l) =
+            ap (λ i. take (count - 1) (turned i places)) is ∙ next_inside places first x inside (count - 1) (omega (arith, fits.0))
+        go (inr r) =
             let start : next ≡ 0 = grind (arith, nat_tests) in
-            ap (λ i. take (count - 1) (turned i places)) start ∙ next_at_end (count - 1) (omega arith) (omega arith)
+            ap (λ i. take (count - 1) (turned i places)) start ∙ next_at_end places first x inside (count - 1) (omega (arith, inside)) (omega (arith, fits.0))
+
+    pub ring_popped : in_ring ring places ≡ x ∷ in_ring (record { first = next; count = count - 1 }) places
+    ring_popped =
+        let more : count ≡ suc (count - 1) = omega arith in
+        ap₂ take more (oldest_first places first x inside) ∙ ap₂ (λ y ys. y ∷ ys) (sym read) (sym ring_next)

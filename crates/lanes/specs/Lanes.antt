@@ -12,9 +12,13 @@ no_ring = record { first = 0; count = 0 }
 abbrev pub ring_at : List Ring → ℕ → Ring
 ring_at rings k = slice_index_or rings k no_ring
 
--- Each ring has at most d letters, and begins inside its lane of d places.
+-- A ring of at most d letters, which begins inside its lane of d places.
+abbrev pub Fits : ℕ → Ring → Type 0
+Fits d ring = (ring.count ≤ d) × (0 < d → ring.first < d)
+
+-- Each ring fits its lane of d places.
 abbrev pub Within : ℕ → List Ring → Type 0
-Within d rings = (k : ℕ) → ((ring_at rings k).count ≤ d) × (0 < d → (ring_at rings k).first < d)
+Within d rings = (k : ℕ) → Fits d (ring_at rings k)
 
 -- The place of the pair p, q among those of n boards, by sender and then receiver.
 abbrev pub place : ℕ → ℕ → ℕ → ℕ

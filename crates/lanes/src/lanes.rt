@@ -1,5 +1,5 @@
 //! Lanes: a post that keeps one ring of letters for every ordered pair, over a lent slice.
-ghost use Rattle.std.specs.Prelude.{◌≡◌, ◌+◌, ◌-◌, ◌*◌, ◌<◌, ◌≤◌, length, if◌then◌else◌, nat_lt};
+ghost use Rattle.std.specs.Prelude.{◌≡◌, ◌+◌, ◌*◌, ◌<◌, ◌≤◌, length};
 ghost use Rattle.lanes.specs.Lanes.{Within, Placed, lanes_mail};
 ghost use Rattle.post.specs.Made.{board_count, depth_for};
 ghost use Rattle.post.specs.Mail.{empty_post};
@@ -52,24 +52,13 @@ impl<'a, T> Lanes<'a, T> {
         Ok(pair.from * self.boards + pair.to)
     }
 
-    /// A place at most one round too far, brought back into a lane.
-    fn round(&self, at: usize) -> usize
-        requires { at < self.now.depth + self.now.depth }
-        ensures value { result ≡ (if nat_lt at self.now.depth then at else at - self.now.depth) }
-        ensures inside { result < self.now.depth }
+    /// Where the lane of a pair's place begins in the slice of letters.
+    fn start(&self, place: usize) -> usize
+        requires { place < self.now.boards * self.now.boards }
+        ensures value { result ≡ place * self.now.depth }
+        ensures within { result + self.now.depth ≤ length self.now.letters.now }
     {
-        // Kept: `%` would divide in each put and take.
-        if at < self.depth { at } else { at - self.depth }
-    }
-
-    /// The place in the slice of letters of place `at` in the lane of a pair's place.
-    fn spot(&self, place: usize, at: usize) -> usize
-        requires place { place < self.now.boards * self.now.boards }
-        requires inside { at < self.now.depth }
-        ensures value { result ≡ place * self.now.depth + at }
-        ensures below { result < self.now.boards * self.now.boards * self.now.depth }
-    {
-        place * self.depth + at
+        place * self.depth
     }
 }
 
@@ -94,33 +83,16 @@ impl<'a, T: NumberKind> Post for Lanes<'a, T> {
 
     fn put(&mut self, pair: Pair, letter: T) -> Result<Posted, PostRefusal> {
         let place = self.place(pair)?;
-        let Ring { first, count } = self.rings[place];
-        if count == self.depth {
-            return Ok(Posted::Full);
-        }
-        let at = self.round(first + count);
-        let spot = self.spot(place, at);
-        self.letters[spot] = letter;
-        self.rings[place] = Ring {
-            first,
-            count: count + 1,
-        };
-        Ok(Posted::Joined)
+        let start = self.start(place);
+        let lane = &mut self.letters[start..start + self.depth];
+        Ok(self.rings[place].push(lane, letter))
     }
 
     fn take(&mut self, pair: Pair) -> Result<Option<T>, PostRefusal> {
         let place = self.place(pair)?;
-        let Ring { first, count } = self.rings[place];
-        if count == 0 {
-            return Ok(None);
-        }
-        let spot = self.spot(place, first);
-        let letter = self.letters[spot];
-        let next = self.round(first + 1);
-        self.rings[place] = Ring {
-            first: next,
-            count: count - 1,
-        };
-        Ok(Some(letter))
+        let start = self.start(place);
+        // Lent by `&mut` as in a put: of what is lent by `&` through `self`, a proof keeps the length alone.
+        let lane = &mut self.letters[start..start + self.depth];
+        Ok(self.rings[place].pop(lane))
     }
 }
