@@ -23,6 +23,7 @@ pub(crate) fn greatest_room(mode: Mode, boards: usize, pairs: &PairLetters) -> u
     ensures { result ≡ greatest_room mode boards pairs.now.counts }
 {
     let mut greatest: usize = 0;
+    // Kept: by two numbers; a chain over rows and letters, each cut to the boards of the grid, would be no plainer.
     for from in 0..boards {
         for to in 0..boards {
             let room = room_for(mode, pairs.counts[from][to]);

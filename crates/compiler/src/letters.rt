@@ -11,7 +11,6 @@ ghost use Rattle.compiler.specs.LetterCounts.{noted, noting, AtMost, BothAnswer,
 use crate::owners::{Owners, owners_of};
 use crate::parts::PairLetters;
 use nest::terms::Statement;
-use owner_map::MOST_BOARDS;
 use sections::Fitted;
 use sequential::iteration::Iteration;
 

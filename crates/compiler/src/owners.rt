@@ -42,6 +42,7 @@ impl OwnersAlong {
         ensures { Along (M.OwnerMap.meaning map.now) subscript range result }
     {
         let mut owners = [0; LOOP_VALUES];
+        // Kept: the table goes by loop values, which need not begin at its first place.
         for value in range.low..range.high + 1 {
             owners[value] = owner_of(map, subscript.position(value).unwrap());
         }

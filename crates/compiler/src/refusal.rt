@@ -9,9 +9,9 @@ use std::alloc::AllocError;
 #[derive(Clone, Copy, PartialEq, Eq, Debug)]
 pub enum CompileRefusal {
     /// There are more or fewer maps than arrays, or one has not its array's length or the grid's board count. Refusal 7.
-    MapsDiffer,
+    MapsDiffer = 7,
     /// There was no memory for the program. The nest is not at fault, so it has no number.
-    NoMemory,
+    NoMemory = 0,
 }
 
 impl From<AllocError> for CompileRefusal {
@@ -24,13 +24,10 @@ impl From<AllocError> for CompileRefusal {
 
 impl CompileRefusal {
     /// The number of the refusal; want of memory has 0.
-    // Kept: a fault is known by its number outside, and an Option of it would say no more than 0 does.
+    // Kept: 0 for want of memory, which the clause promises.
     pub fn number(self) -> usize
         ensures { result ≡ refusal_number self }
     {
-        match self {
-            CompileRefusal::MapsDiffer => 7,
-            CompileRefusal::NoMemory => 0,
-        }
+        self as usize
     }
 }

@@ -55,7 +55,7 @@ impl<'a> BoardView<'a> {
         ensures small { result ≤ 871200000 }
     {
         let mut steps = 0;
-        // Kept: a sum over a chain asks the bound of each order once more, as a lemma beside what `order_steps` ensures.
+        // Kept: tried as a sum over a chain, which asks the bound of each order once more, beside what `order_steps` ensures.
         for order in orders {
             steps += self.order_steps(*order);
         }

@@ -55,6 +55,7 @@ impl<'a> Fitted<'a> {
     }
 
     /// The map of the rows of an array, or none if there is no such array.
+    // Kept: a call for each dimension, as `Dealt` has; the name at the call says more than an argument would.
     pub fn row_map(&self, array: usize) -> Option<&MapTable>
         ensures map { MatchOption result (length self.now.nest.arrays ≤ array) (λ m. tabled m.now ≡ rows_of self.now.deals array) }
         ensures fitted { IsFitted self.now }

@@ -1,4 +1,4 @@
-// Where elements lie in both buffers, in constant time.
+// The element at a place in the arrays, and where it lies in the sections.
 ghost use Rattle.std.specs.Prelude.{◌≡◌, ◌+◌, ◌*◌, ◌<◌, ◌≤◌, length, slice_index, MatchOption};
 ghost use Rattle.layout.specs.Places.{total, IsElement, place_of};
 ghost use Rattle.sections.specs.Beside.{Beside};

@@ -6,20 +6,16 @@ ghost use Rattle.sections.specs.Refusals.{number};
 #[derive(Clone, Copy, PartialEq, Eq, Debug)]
 pub enum LayoutRefusal {
     /// There are more or fewer maps than arrays, or one has not its array's length or the grid's board count. Refusal 7.
-    MapsDiffer,
+    MapsDiffer = 7,
     /// A buffer has another length than there are elements. Refusal 8.
-    WrongLength,
+    WrongLength = 8,
 }
 
 impl LayoutRefusal {
     /// The number by which the refusal is known in a fault.
-    // Kept: a number, since programs print it.
     pub fn number(self) -> u8
         ensures { result ≡ number self }
     {
-        match self {
-            LayoutRefusal::MapsDiffer => 7,
-            LayoutRefusal::WrongLength => 8,
-        }
+        self as u8
     }
 }

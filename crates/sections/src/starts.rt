@@ -26,7 +26,7 @@ pub(crate) fn part_starts(
     let mut starts = [0; MOST_PARTS];
     let mut next = 0;
     for board in 0..grid.rows * grid.columns {
-        // Kept: an index, which the table that is written goes by as well as the maps.
+        // Kept: an index; a zip of the two lists, counted, would be no plainer, as the table of starts goes by the count too.
         for array in 0..row_maps.len() {
             starts[board * MOST_ARRAYS + array] = next;
             let rows = row_maps[array].share(board % grid.rows);

@@ -25,6 +25,7 @@ fn written_places<M: OwnerMap>(
     let mut owners = [0; MOST_POSITIONS];
     let mut ranks = [0; MOST_POSITIONS];
     let mut positions = [0; MOST_PLACES];
+    // Kept: an index; two tables are written at it, and a third at the place that the map answers for it.
     for before in 0..map.length() {
         let (owner, rank) = place_of(map, before + 1);
         owners[before] = owner as u8;
@@ -76,6 +77,7 @@ pub(crate) fn tables_of<M: OwnerMap>(maps: &[M]) -> [MapTable; MOST_ARRAYS]
     ensures room { length result ≡ 4 }
 {
     let mut tables = [MapTable::of(&maps[0]); MOST_ARRAYS];
+    // Kept: written by count; of what a loop over `tables.iter_mut().zip(maps)` wrote a proof knows nothing.
     for (which, map) in maps.iter().enumerate() {
         tables[which] = MapTable::of(map);
     }

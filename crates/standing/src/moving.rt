@@ -23,10 +23,9 @@ impl Course<'_> {
         if let Some(phase) = at.phase.next(reads) {
             return Some(Place { phase, ..at });
         }
-        // Kept: tried `or_else`, but of what a closure over a course returns a proof learns nothing, so that none closed.
-        match at.next_cell(order, reads) {
-            Some(next) => Some(next),
-            None => self.orders_from(at.sweep, at.order + 1),
+        if let Some(next) = at.next_cell(order, reads) {
+            return Some(next);
         }
+        self.orders_from(at.sweep, at.order + 1)
     }
 }

@@ -25,11 +25,11 @@ returns-in-Some-next_cell c =
     let m = after_cell_step n orders c.args.at inside _ c.reads_of-reads.result same c.reads_of-reads.ensures (sym c.next.ensures ∙ c.in_default.is) c.in-Some-next_cell.next (sym c.next_cell.ensures ∙ c.in-Some-next_cell.is) in
     record { step = λ h. m.step; outside = λ h. absurd (both_ways _ h inside); there = m.there }
 
-pub returns-in-None : goal.returns-in-None
-returns-in-None c =
+pub returns : goal.returns
+returns c =
     let n = shown c.args.self.now.nest.now in
     let orders = c.args.self.now.orders.now in
     let inside : in_program n orders c.args.at ≡ true = sym c.contains.ensures ∙ c.if-not-contains.false in
     let same = get_or_default orders c.args.at.order no_order _ (placed n orders c.args.at inside).there in
-    let m = after_order_step n orders c.args.at inside _ c.reads_of-reads.result same c.reads_of-reads.ensures (sym c.next.ensures ∙ c.in_default.is) (sym c.next_cell.ensures ∙ c.in-None.is) c.orders_from.result c.orders_from.ensures.todo c.orders_from.ensures.there in
+    let m = after_order_step n orders c.args.at inside _ c.reads_of-reads.result same c.reads_of-reads.ensures (sym c.next.ensures ∙ c.in_default.is) (sym c.next_cell.ensures ∙ c.in_default-next_cell.is) c.orders_from.result c.orders_from.ensures.todo c.orders_from.ensures.there in
     record { step = λ h. m.step; outside = λ h. absurd (both_ways _ h inside); there = m.there }
