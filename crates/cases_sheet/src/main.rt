@@ -29,7 +29,8 @@ fn run(rt: &HostRuntime) -> anyhow::Result<()> {
         let bytes = fs::read(rt, name.as_str())?;
         print!(rt; "{name}: ")?;
         match read_sheet(rt.alloc(), bytes.as_slice()) {
-            Ok(nest) => print_nest(rt, &nest)?,
+            // A copy is printed, so that each sheet shows that a nest can be copied and says the same.
+            Ok(nest) => print_nest(rt, &nest.clone()?)?,
             Err(fault) => rt.println(Told::from(fault))?,
         }
     }
