@@ -1,14 +1,12 @@
 -- A deal's answers, read from rows.
-use Rattle.std.proofs.Common.{◌≡◌, ℕ, ◌+◌, ◌*◌, ◌<◌, ◌≤◌, List, length, get_or, take, count_by, ◌==◌, refl, Option, Result, Ok, Err, Some, None, unwrap_or, sym, ap, ◌∙◌, ⊎_elim, arith}
+use Rattle.std.proofs.Common.{◌≡◌, ℕ, ◌+◌, ◌*◌, ◌<◌, ◌≤◌, List, length, get_or, take, Option, Result, Ok, Err, Some, None, unwrap_or, sym, ap, ◌∙◌, ⊎_elim, arith}
 use Rattle.std.proofs.lemmas.List.{length-take-le}
-use Rattle.std.proofs.lemmas.List.Recursion.{is_count_by}
 use Rattle.std.proofs.lemmas.Bool.{cases_order}
-use Rattle.std.proofs.lemmas.Bool.Decides.{nat_tests}
 use Rattle.std.specs.Result.{result_ok}
 use Rattle.owner_map.specs.declared.refusal.Refusal.{Refusal}
 use Rattle.owner_map.specs.Answer.{Placed, Found}
 use Rattle.owner_map.specs.Listed.{listed}
-use Rattle.owner_map.specs.Meaning.{Deal, Sound, Position, extent, owner, share, tally, place, position}
+use Rattle.owner_map.specs.Meaning.{Deal, Sound, Position, extent, owner, share, place, position}
 use Rattle.owner_map.specs.Deals.{below_le, some_below_share, none_past_share, position_undone}
 use Rattle.sections.specs.MapRows.{PositionsIn}
 
@@ -37,10 +35,6 @@ positioned d positions all b r less =
     let x = some_below_share d b r less in
     let v : get_or positions (b * 32 + r) 0 ≡ x.0 = all b r less ∙ ap (λ o. unwrap_or o 0) x.1 in
     ap Some v ∙ sym x.1
-
--- how often a board stands in a row
-pub tally_counts : (b : ℕ) (row : List ℕ) → tally b row ≡ count_by (λ o. o == b) row
-tally_counts b row = is_count_by (tally b) (λ o. o == b) refl (λ o rest. grind (arith, nat_tests)) row
 
 -- what a map answered that gave a place, and one that refused a board
 pub placed_at : (d : Deal) (x : ℕ) (r : Result (ℕ × ℕ) Refusal) (p : ℕ × ℕ) → Placed d x r → result_ok r ≡ Some p → Position d x × (p ≡ place d x)

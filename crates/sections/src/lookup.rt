@@ -4,7 +4,7 @@ ghost use Rattle.owner_map.specs.Meaning.{share};
 ghost use Rattle.sections.specs.MapTables.{tabled};
 
 use super::map_table::MapTable;
-use owner_map::{MOST_POSITIONS, OwnerMap, Refusal};
+use owner_map::{MOST_POSITIONS, Numbers, OwnerMap, Refusal};
 
 impl MapTable {
     /// How many positions a board of the map owns.
@@ -13,6 +13,16 @@ impl MapTable {
         ensures { result ≡ share (tabled self.now) board }
     {
         self.shares[board] as usize
+    }
+
+    /// The two numbers of the map.
+    fn numbers(&self) -> Numbers
+        ensures { (result.boards ≡ self.now.boards) × (result.length ≡ self.now.size) }
+    {
+        Numbers {
+            boards: self.boards,
+            length: self.size,
+        }
     }
 }
 
@@ -30,16 +40,12 @@ impl OwnerMap for MapTable {
     }
 
     fn place(&self, x: usize) -> Result<(usize, usize), Refusal> {
-        if x < 1 || self.size < x {
-            return Err(Refusal::OutsideNumbers);
-        }
-        Ok((self.owners[x - 1] as usize, self.ranks[x - 1] as usize))
+        let before = self.numbers().before_position(x)?;
+        Ok((self.owners[before] as usize, self.ranks[before] as usize))
     }
 
     fn position(&self, board: usize, rank: usize) -> Result<Option<usize>, Refusal> {
-        if board >= self.boards {
-            return Err(Refusal::OutsideNumbers);
-        }
+        self.numbers().check_board(board)?;
         if rank >= self.share(board) {
             return Ok(None);
         }
@@ -47,10 +53,10 @@ impl OwnerMap for MapTable {
     }
 
     fn count_below(&self, board: usize, bound: usize) -> Result<usize, Refusal> {
-        if board >= self.boards || bound < 1 || bound > self.size + 1 {
-            return Err(Refusal::OutsideNumbers);
-        }
-        let below = self.owners[..bound - 1].iter();
-        Ok(below.filter(|owner| **owner as usize == board).count())
+        let numbers = self.numbers();
+        numbers.check_board(board)?;
+        let below = numbers.below_bound(bound)?;
+        let owners = self.owners[..below].iter();
+        Ok(owners.filter(|owner| **owner as usize == board).count())
     }
 }

@@ -1,13 +1,15 @@
-use Rattle.std.proofs.Common.{◌≡◌, ◌==◌, ◌-◌, ◌≤◌, count_by, take, sym, ap, ◌∙◌, arith, rules}
-use Rattle.std.proofs.lemmas.List.{take-take}
-use Rattle.owner_map.specs.Meaning.{tally}
-use Rattle.sections.proofs.Lookups.{extent_is, tally_counts}
+use Rattle.std.proofs.Common.{◌≡◌, ◌+◌, ◌==◌, ◌≤◌, ◌∙◌, count_by, take, arith, rules}
+use Rattle.owner_map.proofs.RowSteps.{below_counted}
+use Rattle.sections.proofs.Lookups.{extent_is}
 use Rattle.sections.proofs.lookup.MapTableOwnerMap.count_below.Goals as goal
 
 pub returns : goal.returns
 returns c =
     let m = c.args.self.now in
+    let k = c.in_ok-below.below in
+    let on = c.in_ok-below.ensures in
+    let is = c.numbers-numbers.ensures in
     let size = extent_is m.boards m.size m.owners m.fits m.owner_room in
-    let high : c.args.bound - 1 ≤ m.size = omega arith in
-    let n : c.count.result ≡ count_by (λ o. o == c.args.board) (take (c.args.bound - 1) m.owners) = search rules in
-    ((omega arith, (omega arith, omega arith)), n ∙ sym (tally_counts c.args.board (take (c.args.bound - 1) m.owners)) ∙ sym (ap (tally c.args.board) (take-take (c.args.bound - 1) m.size m.owners high)))
+    let high : c.args.bound ≤ m.size + 1 = omega (arith, on.0.1, is.1) in
+    let n : c.count.result ≡ count_by (λ o. o == c.args.board) (take k m.owners) = search rules in
+    ((omega (arith, c.in_ok-check_board.ensures.0, is.0), (on.0.0, omega arith)), n ∙ below_counted m.boards m.size m.owners c.args.board c.args.bound k high on.1)
