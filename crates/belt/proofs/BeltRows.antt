@@ -3,7 +3,7 @@ use Rattle.std.proofs.Common.{◌≡◌, ℕ, suc, ◌+◌, ◌-◌, ◌<◌, �
 use Rattle.std.proofs.lemmas.List.{append-nil, take-append-drop, take_more_set, drop_more, nil_from_length, length-take-le, get_or-take, length-set}
 use Rattle.std.proofs.lemmas.Bool.Decides.{nat_tests}
 use Rattle.std.proofs.lemmas.Grind.{common_steps}
-use Rattle.std.specs.List.{copy_within, remove}
+use Rattle.std.specs.List.{remove}
 use Rattle.belt.specs.declared.belt.Belt.{Belt}
 use Rattle.belt.specs.declared.slots.Slot.{Slot}
 use Rattle.belt.specs.Belt.{for_pair, letters_for, Kept, FirstOf, belt_mail}
@@ -11,7 +11,6 @@ use Rattle.post.specs.Answers.{service}
 use Rattle.post.specs.Mail.{Mail, letter, oldest, after_put, take_answer, after_take}
 use Rattle.post.proofs.Mails.{one_row}
 use Rattle.post.proofs.Steps.{admitted, put_joins, take_oldest, take_drops}
-use Rattle.belt.proofs.Gaps.{closed_gap}
 use Rattle.belt.proofs.Lines.{letters_append, letters_mine, letters_other}
 use Rattle.belt.proofs.Crowds.{some_room, own_pair, one_more}
 
@@ -70,14 +69,8 @@ module _ {V : Type 0} where
         let old = kept s r in
         (omega (arith, fewer), λ l. omega (arith, fewer, old.1 l), λ l. omega (arith, fewer, old.2 l))
 
-  -- a belt, and a pair that it does not refuse
-  module _ (b : Belt V) (p q : ℕ) (ok : Ok tt ≡ service b.boards p q) where
-    h : p < b.boards
-    h = (admitted b.boards p q tt ok).0
-
-    k : q < b.boards
-    k = (admitted b.boards p q tt ok).1
-
+  -- a belt and a pair
+  module _ (b : Belt V) (p q : ℕ) where
     abbrev slots : List (Slot V)
     slots = b.slots.now
 
@@ -87,54 +80,61 @@ module _ {V : Type 0} where
     abbrev mail : Mail V
     mail = belt_mail b.boards b.depth b.used slots
 
-    -- the letter v comes
-    module _ (v : V) (free : length (letters_for p q held) ≢ b.depth) where
-      abbrev new : Slot V
-      new = record { pair = record { from = p; to = q }; letter = v }
-
-      below : length (letters_for p q held) < b.depth
-      below = omega (arith, (b.kept p q).0)
-
-      pub slot_free : b.used < length slots
-      slot_free = omega (arith, some_room b.boards b.depth p q held b.kept h k below, length-take-le b.used slots b.held, b.room, b.held)
-
-      pub slot_held : b.used + 1 ≤ length (set slots b.used new)
-      slot_held = omega (arith, slot_free, length-set slots b.used new)
-
-      pub slot_kept : Kept b.boards b.depth (take (b.used + 1) (set slots b.used new))
-      slot_kept = subst (Kept b.boards b.depth) (sym (take_more_set slots b.used new slot_free)) (kept_joined p q new (own_pair new) held b.boards b.depth b.kept h k below)
-
-      pub belt_put : belt_mail b.boards b.depth (b.used + 1) (set slots b.used new) ≡ after_put mail p q v
-      belt_put =
-          let more = take_more_set slots b.used new slot_free in
-          one_row mail (belt_mail b.boards b.depth (b.used + 1) (set slots b.used new)) p q (mail.row p q ++ (v ∷ [])) refl refl
-          (ap (letters_for p q) more ∙ joined_mine p q new (own_pair new) held)
-          (λ s r apart. ap (letters_for s r) more ∙ joined_other p q new (own_pair new) held s r apart)
-          ∙ put_joins mail p q h k v free
-
     -- the first letter of the pair goes
-    module _ (i : ℕ) (x : Slot V) (moved : List (Slot V)) (first : FirstOf p q held (Some i)) (read : x ≡ get_or slots i x) (copied : moved ≡ copy_within slots (i + 1) b.used i) where
+    module _ (i : ℕ) (x : Slot V) (moved : List (Slot V)) (first : FirstOf p q held (Some i)) (read : x ≡ get_or slots i x) (closed : take (b.used - 1) moved ≡ remove held i) where
       i_below : i < b.used
       i_below = omega (arith, first.0, length-take-le b.used slots b.held)
 
       seen : x ≡ get_or held i x
       seen = read ∙ sym (get_or-take b.used slots i x i_below)
 
-      closed : take (b.used - 1) moved ≡ remove held i
-      closed = ap (take (b.used - 1)) copied ∙ closed_gap slots i b.used i_below b.held
-
       row_split : mail.row p q ≡ x.letter ∷ letters_for p q (take (b.used - 1) moved)
       row_split = gone_mine p q i x held first seen ∙ ap (λ l. x.letter ∷ letters_for p q l) (sym closed)
 
-      pub belt_oldest : letter (get_or slots i x).letter ≡ take_answer mail p q
-      belt_oldest = ap (λ y. letter y.letter) (sym read) ∙ sym (ap oldest row_split) ∙ take_oldest mail p q h k
-
-      pub belt_take : belt_mail b.boards b.depth (b.used - 1) moved ≡ after_take mail p q
-      belt_take =
-          one_row mail (belt_mail b.boards b.depth (b.used - 1) moved) p q (drop 1 (mail.row p q)) refl refl
-          (sym (ap (drop 1) row_split))
-          (λ s r apart. ap (letters_for s r) closed ∙ sym (gone_other p q i x held first seen s r apart))
-          ∙ take_drops mail p q h k
-
       pub gap_kept : Kept b.boards b.depth (take (b.used - 1) moved)
       gap_kept = subst (Kept b.boards b.depth) (sym closed) (kept_gone p q i x held first seen b.boards b.depth b.kept)
+
+    -- the belt does not refuse the pair
+    module _ (ok : Ok tt ≡ service b.boards p q) where
+      h : p < b.boards
+      h = (admitted b.boards p q tt ok).0
+
+      k : q < b.boards
+      k = (admitted b.boards p q tt ok).1
+
+      -- the letter v comes
+      module _ (v : V) (free : length (letters_for p q held) ≢ b.depth) where
+        abbrev new : Slot V
+        new = record { pair = record { from = p; to = q }; letter = v }
+
+        below : length (letters_for p q held) < b.depth
+        below = omega (arith, (b.kept p q).0)
+
+        pub slot_free : b.used < length slots
+        slot_free = omega (arith, some_room b.boards b.depth p q held b.kept h k below, length-take-le b.used slots b.held, b.room, b.held)
+
+        pub slot_held : b.used + 1 ≤ length (set slots b.used new)
+        slot_held = omega (arith, slot_free, length-set slots b.used new)
+
+        pub slot_kept : Kept b.boards b.depth (take (b.used + 1) (set slots b.used new))
+        slot_kept = subst (Kept b.boards b.depth) (sym (take_more_set slots b.used new slot_free)) (kept_joined p q new (own_pair new) held b.boards b.depth b.kept h k below)
+
+        pub belt_put : belt_mail b.boards b.depth (b.used + 1) (set slots b.used new) ≡ after_put mail p q v
+        belt_put =
+            let more = take_more_set slots b.used new slot_free in
+            one_row mail (belt_mail b.boards b.depth (b.used + 1) (set slots b.used new)) p q (mail.row p q ++ (v ∷ [])) refl refl
+            (ap (letters_for p q) more ∙ joined_mine p q new (own_pair new) held)
+            (λ s r apart. ap (letters_for s r) more ∙ joined_other p q new (own_pair new) held s r apart)
+            ∙ put_joins mail p q h k v free
+
+      -- the first letter of the pair goes
+      module _ (i : ℕ) (x : Slot V) (moved : List (Slot V)) (first : FirstOf p q held (Some i)) (read : x ≡ get_or slots i x) (closed : take (b.used - 1) moved ≡ remove held i) where
+        pub belt_oldest : letter (get_or slots i x).letter ≡ take_answer mail p q
+        belt_oldest = ap (λ y. letter y.letter) (sym read) ∙ sym (ap oldest (row_split i x moved first read closed)) ∙ take_oldest mail p q h k
+
+        pub belt_take : belt_mail b.boards b.depth (b.used - 1) moved ≡ after_take mail p q
+        belt_take =
+            one_row mail (belt_mail b.boards b.depth (b.used - 1) moved) p q (drop 1 (mail.row p q)) refl refl
+            (sym (ap (drop 1) (row_split i x moved first read closed)))
+            (λ s r apart. ap (letters_for s r) closed ∙ sym (gone_other p q i x held first (seen i x moved first read closed) s r apart))
+            ∙ take_drops mail p q h k

@@ -12,7 +12,8 @@ const LIMIT: u64 = 4096;
 pub(crate) fn sheet_bytes(rt: &HostRuntime, heap: Global) -> io::Result<Vec<u8>>
     ensures { IfOk result (λ v. vec_len v ≤ 4096) }
 {
-    let mut bytes = Vec::new(heap);
+    // Room for all of it, so that one read asks for the whole of a packet; what a short read leaves of one is lost.
+    let mut bytes = Vec::with_capacity(heap, LIMIT as usize)?;
     rt.stdin().take(LIMIT).read_to_end(&mut bytes)?;
     // No more than the limit was taken; `read_to_end` does not say so of a reader whose bytes are unknown.
     bytes.truncate(LIMIT as usize);

@@ -67,16 +67,24 @@ module _ {V : Type 0} (places : List V) (ring : Ring) (fits : Fits (length place
     first_below : first < d
     first_below = fits.1 (omega (arith, fits.0))
 
-    set_round : turned first (set places at v) ≡ set (turned first places) count v
-    set_round = go (cases_lt (first + count) d)
+    -- the lane's end is not passed, or it is
+    pub round_cases : ((first + count < d) × (at ≡ first + count)) ⊎ ((at + d ≡ first + count) × (at < first))
+    round_cases = go (cases_lt (first + count) d)
       where
-        go : (first + count < d) ⊎ (d ≤ first + count) → turned first (set places at v) ≡ set (turned first places) count v
+        go : (first + count < d) ⊎ (d ≤ first + count) → ((first + count < d) × (at ≡ first + count)) ⊎ ((at + d ≡ first + count) × (at < first))
         go (inl l) =
             let e : at ≡ first + count = grind (arith, nat_tests) in
-            ap (λ i. turned first (set places i v)) e ∙ set_before_end places first (omega (arith, first_below)) count v l
+            inl (l, e)
         go (inr r) =
             let e : at + d ≡ first + count = grind (arith, nat_tests) in
-            set_past_end places first (omega (arith, first_below)) count at v e (omega (arith, fits.0))
+            inr (e, omega (arith, fits.0))
+
+    set_round : turned first (set places at v) ≡ set (turned first places) count v
+    set_round = go round_cases
+      where
+        go : ((first + count < d) × (at ≡ first + count)) ⊎ ((at + d ≡ first + count) × (at < first)) → turned first (set places at v) ≡ set (turned first places) count v
+        go (inl e) = ap (λ i. turned first (set places i v)) e.1 ∙ set_before_end places first (omega (arith, first_below)) count v e.0
+        go (inr e) = set_past_end places first (omega (arith, first_below)) count at v e.0 e.1
 
     pub ring_pushed : in_ring (record { first = first; count = count + 1 }) (set places at v) ≡ in_ring ring places ++ (v ∷ [])
     ring_pushed = ap (take (count + 1)) set_round ∙ take_more_set (turned first places) count v (omega (arith, fits.0, turned_length places first))

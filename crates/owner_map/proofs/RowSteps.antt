@@ -1,26 +1,29 @@
--- What iterators over a row of owners find.
-use Rattle.std.proofs.Common.{◌≡◌, ℕ, zero, suc, ◌+◌, ◌-◌, ◌<◌, ◌≤◌, List, [], ◌∷◌, length, get_or, take, count_by, ◌==◌, refl, sym, ap, ◌∙◌, arith}
-use Rattle.std.specs.List.{range_with_len, zip, slice_get, filter}
-use Rattle.std.specs.Option.{option_map}
-use Rattle.std.proofs.lemmas.List.{take-take, get_or-take}
+-- Steps of a walk along a row of owners, and what is counted along one.
+use Rattle.std.proofs.Common.{◌≡◌, ℕ, ◌+◌, ◌-◌, ◌<◌, ◌≤◌, List, length, get_or, take, count_by, Some, None, ◌==◌, sym, ap, ◌∙◌, arith}
+use Rattle.std.proofs.lemmas.List.{take_all, take-take, get_or-take}
 use Rattle.std.proofs.lemmas.Bool.Decides.{nat_tests}
 use Rattle.owner_map.specs.Meaning.{Sound, owner, place, below, tally, seek}
 use Rattle.owner_map.specs.Listed.{listed}
-use Rattle.owner_map.specs.Tallies.{tally_counts}
+use Rattle.owner_map.specs.Tallies.{tally_counts, tally_more, seek_finds, seek_none}
 
--- The position of board b at rank r is the r-th of those that the row names b for.
-pub seek_nth : (b r x n : ℕ) (row : List ℕ) → option_map (λ (q : ℕ × ℕ). q.0) (slice_get (filter (λ (q : ℕ × ℕ). q.1 == b) (zip (range_with_len x n) row)) r) ≡ seek x b r (take n row)
-seek_nth b r x zero row = refl
-seek_nth b r x (suc n) [] = refl
-seek_nth b zero x (suc n) (o ∷ row) =
-    let ih = seek_nth b zero (suc x) n row in
-    let e : x + 1 ≡ suc x = omega arith in
-    rw e (grind (arith, nat_tests))
-seek_nth b (suc r) x (suc n) (o ∷ row) =
-    let hit = seek_nth b r (suc x) n row in
-    let miss = seek_nth b (suc r) (suc x) n row in
-    let e : x + 1 ≡ suc x = omega arith in
-    rw e (grind (arith, nat_tests))
+module _ (b : ℕ) (row : List ℕ) (i : ℕ) (within : i < length row) where
+  pub tally_hit : get_or row i 0 ≡ b → tally b (take (i + 1) row) ≡ tally b (take i row) + 1
+  tally_hit e = let t = tally_more b row i within in grind (arith, nat_tests)
+
+  pub tally_miss : (get_or row i 0 ≡ b → ⊥) → tally b (take (i + 1) row) ≡ tally b (take i row)
+  tally_miss e = let t = tally_more b row i within in grind (arith, nat_tests)
+
+-- The board stands here, after r earlier ones.
+pub seek_here : (b : ℕ) (row : List ℕ) (i r : ℕ) → i < length row → get_or row i 0 ≡ b → tally b (take i row) ≡ r → Some (i + 1) ≡ seek 1 b r row
+seek_here b row i r within e t =
+    let s : 1 + i ≡ i + 1 = omega arith in
+    sym (rw (t, s) at (seek_finds 1 row i b within e))
+
+-- The whole row has been walked, and the rank was not reached.
+pub seek_nowhere : (b : ℕ) (row : List ℕ) (i r : ℕ) → length row ≤ i → tally b (take i row) ≤ r → None ≡ seek 1 b r row
+seek_nowhere b row i r past short =
+    let whole = take_all i row past in
+    sym (seek_none 1 b r row (rw whole at short))
 
 -- In a sound deal each owner that is listed is a board.
 pub owner_listed : (p : ℕ) (os : List ℕ) → Sound (listed p os) → (i : ℕ) → i < length os → get_or os i 0 < p

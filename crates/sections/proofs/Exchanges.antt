@@ -1,12 +1,33 @@
--- How scatter and gather undo each other.
-use Rattle.std.proofs.Common.{◌≡◌, List, length, get_or, sym, ap, ◌∙◌, arith}
+-- What follows from an answer of scatter and gather, and how they undo each other.
+use Rattle.std.proofs.Common.{◌≡◌, ℕ, List, length, get_or, IfOk, Ok, Err, Result, sym, ap, ◌∙◌, inl, inr, ⊎_elim, arith}
 use Rattle.std.proofs.lemmas.List.{same_lists}
 use Rattle.nest.specs.Terms.{Sheet}
 use Rattle.layout.specs.Places.{total}
 use Rattle.layout.proofs.PlaceLaws.{place_taken}
-use Rattle.sections.specs.Exchange.{SameElements, ArraysBack, SectionsBack}
+use Rattle.sections.specs.declared.refusal.LayoutRefusal.{LayoutRefusal}
+use Rattle.sections.specs.Exchange.{SameElements, Long, Due, Answered, ArraysBack, SectionsBack}
+use Rattle.sections.specs.Refusals.{number}
 use Rattle.sections.specs.Sections.{EachSound, Deals, Fits}
 use Rattle.sections.proofs.SectionPlaces.{section_taken}
+
+turned : (sheet : Sheet) (deals : Deals) (n m k : ℕ) → Due sheet deals n m k → Due sheet deals m n k
+turned sheet deals n m k due = ⊎_elim inl (λ d. inr (d.0, d.1, λ l. d.2 (l.1, l.0))) due
+
+module _ {A : Type 0} (sheet : Sheet) (deals : Deals) (n m : ℕ) (Moved Later Same : Type 0) where
+  -- the same answer, in other words
+  pub answered_like : (Moved → Later) → (r : Result A LayoutRefusal) → Answered sheet deals n m Moved Same r → Answered sheet deals n m Later Same r
+  answered_like turn (Ok a) p = (p.0, p.1, turn p.2)
+  answered_like turn (Err e) p = p
+
+  -- and with the two buffers named the other way round
+  pub answered_turned : (Moved → Later) → (r : Result A LayoutRefusal) → Answered sheet deals n m Moved Same r → Answered sheet deals m n Later Same r
+  answered_turned turn (Ok a) p = (p.0, (p.1.1, p.1.0), turn p.2)
+  answered_turned turn (Err e) p = (turned sheet deals n m (number e) p.0, p.1)
+
+  -- what follows wherever elements were moved
+  pub made_from : (Fits sheet.grid sheet.arrays deals → Long sheet n m → Moved → Later) → (r : Result A LayoutRefusal) → Answered sheet deals n m Moved Same r → IfOk r (λ _. Later)
+  made_from law (Ok a) p = law p.0 p.1 p.2
+  made_from law (Err e) p = tt
 
 module _ {T : Type 0} (sheet : Sheet) (deals : Deals) (arrays sections : List T) (same : SameElements sheet deals arrays sections) where
   pub arrays_back : length arrays ≡ total sheet.arrays → ArraysBack sheet deals arrays sections

@@ -1,6 +1,7 @@
 -- A deal's answers, read from rows.
-use Rattle.std.proofs.Common.{◌≡◌, ℕ, ◌+◌, ◌*◌, ◌<◌, ◌≤◌, List, length, get_or, take, Option, Result, Ok, Err, Some, None, unwrap_or, sym, ap, ◌∙◌, ⊎_elim, arith}
+use Rattle.std.proofs.Common.{◌≡◌, ℕ, ◌+◌, ◌*◌, ◌<◌, ◌≤◌, ◌==◌, List, length, count_by, get_or, take, Option, Result, Ok, Err, Some, None, unwrap_or, sym, ap, ◌∙◌, ⊎_elim, arith}
 use Rattle.std.proofs.lemmas.List.{length-take-le}
+use Rattle.std.proofs.lemmas.List.Sums.{count_by-le-length}
 use Rattle.std.proofs.lemmas.Bool.{cases_order}
 use Rattle.std.specs.Result.{result_ok}
 use Rattle.owner_map.specs.declared.refusal.Refusal.{Refusal}
@@ -9,6 +10,10 @@ use Rattle.owner_map.specs.Listed.{listed}
 use Rattle.owner_map.specs.Meaning.{Deal, Sound, Position, extent, owner, share, place, position}
 use Rattle.owner_map.specs.Deals.{below_le, some_below_share, none_past_share, position_undone}
 use Rattle.sections.specs.MapRows.{PositionsIn}
+
+-- a board stands in a row no more often than the row is long
+pub seldom : (b : ℕ) (row : List ℕ) → count_by (λ o. o == b) row ≤ length row
+seldom b row = count_by-le-length (λ o. o == b) row
 
 -- how far the written owners go
 pub extent_is : (boards size : ℕ) (owners : List ℕ) → size ≤ 32 → length owners ≡ 32 → extent (listed boards (take size owners)) ≡ size

@@ -8,6 +8,7 @@ ghost use Rattle.sections.specs.SectionLaws.{OneSectionEach};
 ghost use Rattle.sections.specs.Sections.{dealt};
 
 use super::fitted::Fitted;
+use super::fitting::maps_fit;
 use super::refusal::LayoutRefusal;
 use layout::table::Layout;
 use nest::nest::Nest;
@@ -23,11 +24,15 @@ fn prepared<'a, R: OwnerMap, C: OwnerMap>(
 ) -> Result<Fitted<'a>, LayoutRefusal>
     ensures { Prepared (nest_dealt (shown nest.now) (map R.OwnerMap.meaning row_maps.now) (map C.OwnerMap.meaning column_maps.now)) arrays sections result }
 {
-    let fitted = Fitted::new(nest, row_maps, column_maps)?;
+    // The lengths before the tables, so that a refusal asks no map for a position.
+    if !maps_fit(nest, row_maps, column_maps) {
+        return Err(LayoutRefusal::MapsDiffer);
+    }
     let total = Layout::new(nest).total();
     if arrays != total || sections != total {
         return Err(LayoutRefusal::WrongLength);
     }
+    let fitted = Fitted::new(nest, row_maps, column_maps)?;
     Ok(fitted)
 }
 

@@ -1,10 +1,21 @@
 // A table of a map's answers is a map.
-ghost use Rattle.std.specs.Prelude.{◌≡◌, ◌<◌};
+ghost use Rattle.std.specs.Prelude.{◌≡◌, ◌<◌, ◌≤◌, ◌==◌, length, count_by};
 ghost use Rattle.owner_map.specs.Meaning.{share};
 ghost use Rattle.sections.specs.MapTables.{tabled};
 
 use super::map_table::MapTable;
 use owner_map::{MOST_POSITIONS, Numbers, OwnerMap, Refusal};
+
+/// How often a board stands in a row of owners.
+// A sum of bytes, which is compiled without a branch for each owner; a filter and a count are not.
+#[tactic(auto, using(crate::proofs::Lookups::seldom))]
+fn occurrences(row: &[u8], board: usize) -> usize
+    requires { (board < 8) × (length row.now ≤ 32) }
+    ensures { result ≡ count_by (λ o. o == board) row.now }
+{
+    let board = board as u8;
+    row.iter().map(|owner| (*owner == board) as u8).sum::<u8>() as usize
+}
 
 impl MapTable {
     /// How many positions a board of the map owns.
@@ -56,7 +67,6 @@ impl OwnerMap for MapTable {
         let numbers = self.numbers();
         numbers.check_board(board)?;
         let below = numbers.below_bound(bound)?;
-        let owners = self.owners[..below].iter();
-        Ok(owners.filter(|owner| **owner as usize == board).count())
+        Ok(occurrences(&self.owners[..below], board))
     }
 }

@@ -77,9 +77,9 @@ pub(crate) fn tables_of<M: OwnerMap>(maps: &[M]) -> [MapTable; MOST_ARRAYS]
     ensures room { length result ≡ 4 }
 {
     let mut tables = [MapTable::of(&maps[0]); MOST_ARRAYS];
-    // Kept: written by count; of what a loop over `tables.iter_mut().zip(maps)` wrote a proof knows nothing.
-    for (which, map) in maps.iter().enumerate() {
-        tables[which] = MapTable::of(map);
+    // Kept: written by count, from the second; of what a loop over `tables.iter_mut().zip(maps)` wrote a proof knows nothing.
+    for which in 1..maps.len() {
+        tables[which] = MapTable::of(&maps[which]);
     }
     tables
 }

@@ -1,5 +1,5 @@
 -- The iterations so far, turn by turn. Assumes nothing.
-use Rattle.std.proofs.Common.{◌≡◌, ℕ, ◌+◌, ◌-◌, ◌≤◌, List, [], ◌∷◌, ◌++◌, fold, sym, ap, ◌∙◌, arith}
+use Rattle.std.proofs.Common.{◌≡◌, ℕ, ◌+◌, ◌-◌, ◌≤◌, List, [], ◌∷◌, ◌++◌, fold, sym, refl, ap, ◌∙◌, arith}
 use Rattle.std.specs.List.{range_with_len, flat_map}
 use Rattle.std.proofs.lemmas.List.FromFn.{map-range_with_len_more}
 use Rattle.std.proofs.lemmas.List.{append-nil, map-id}
@@ -24,11 +24,17 @@ joined_push : {X A : Type 0} (f : X → List A) (xs : List X) (x : X) → flat_m
 joined_push f xs x = flat_map-append f xs (x ∷ []) ∙ ap (λ t. flat_map f xs ++ t) (append-nil (f x))
 
 module _ {B : Type 0} (f : B → Iteration → B) (b : B) where
+  pub row_none : (x : ℕ) (j : Range) → b ≡ fold f b (row_before x j j.low)
+  row_none x j = let z : j.low - j.low ≡ 0 = omega arith in rw z refl
+
   pub row_more : (x : ℕ) (j : Range) (y : ℕ) (before after : B) → j.low ≤ y → before ≡ fold f b (row_before x j y) → after ≡ f before (record { i = x; j = y }) → after ≡ fold f b (row_before x j (y + 1))
   row_more x j y before after h so step =
       let n : y + 1 - j.low ≡ (y - j.low) + 1 = omega arith in
       let at : ℕ → Iteration = λ z. record { i = x; j = z } in
       step ∙ ap (λ t. f t (at y)) so ∙ sym (fold_push f b (row_before x j y) (at y)) ∙ ap (fold f b) (sym (map-range_with_len_more at j.low (y - j.low) y (omega arith)) ∙ ap (λ t. row_of (range_with_len j.low t) x) (sym n))
+
+  pub rows_none : (i j : Range) → b ≡ fold f b (rows_before i j i.low)
+  rows_none i j = let z : i.low - i.low ≡ 0 = omega arith in rw z refl
 
   pub rows_more : (i j : Range) (x y : ℕ) (before after : B) → i.low ≤ x → y ≡ j.high + 1 → before ≡ fold f b (rows_before i j x) → after ≡ fold f before (row_before x j y) → after ≡ fold f b (rows_before i j (x + 1))
   rows_more i j x y before after h end so step =

@@ -5,13 +5,17 @@ use Rattle.std.specs.declared.alloc.Global.{Global}
 use denote.Param.Members.{Shared}
 use denote.Ref.{MutBor}
 use Rattle.tokens.specs.declared.cursor.Cursor.{Cursor}
-use Rattle.tokens.specs.Texts.{Text, Read, got, then}
+use Rattle.tokens.specs.Texts.{Text, Read, got, refused, then}
 use Rattle.tokens.specs.Views.{before}
 use Rattle.nest.specs.declared.fault.SheetFault.{SheetFault}
 use Rattle.nest.specs.declared.fault.SheetFault.TheVariants.{Line, Field, Nest, NoMemory}
 use Rattle.sheet.specs.Answered.{lost, sheet_answer}
 use Rattle.sheet.specs.Lines.{times}
 use Rattle.sheet.specs.Repeated.{Reads, Repeated}
+
+pub then_got : {V : Type 0} (r : Read V) → then r (λ v t. got v t) ≡ r
+then_got (got v t) = refl
+then_got (refused n l b) = refl
 
 -- a call reads as `one` says; `all` says what a list of values stands for, as `view` says it of one
 module _ {V W : Type 0} (view : V → W) (all : List V → List W) (none : all [] ≡ []) (more : (v : V) (vs : List V) → all (v ∷ vs) ≡ view v ∷ all vs)

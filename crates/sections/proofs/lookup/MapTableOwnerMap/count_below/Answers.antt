@@ -1,7 +1,13 @@
-use Rattle.std.proofs.Common.{◌≡◌, ◌+◌, ◌==◌, ◌≤◌, ◌∙◌, count_by, take, arith, rules}
+use Rattle.std.proofs.Common.{◌+◌, ◌≤◌, ◌∙◌, arith, rules, length-take}
 use Rattle.owner_map.proofs.RowSteps.{below_counted}
 use Rattle.sections.proofs.Lookups.{extent_is}
 use Rattle.sections.proofs.lookup.MapTableOwnerMap.count_below.Goals as goal
+
+pub occurrences-requires : goal.occurrences-requires
+occurrences-requires c =
+    let m = c.args.self.now in
+    let is = c.numbers-numbers.ensures in
+    (omega (arith, c.in_ok-check_board.ensures.0, is.0, m.sound.1), search (rules, length-take))
 
 pub returns : goal.returns
 returns c =
@@ -11,5 +17,4 @@ returns c =
     let is = c.numbers-numbers.ensures in
     let size = extent_is m.boards m.size m.owners m.fits m.owner_room in
     let high : c.args.bound ≤ m.size + 1 = omega (arith, on.0.1, is.1) in
-    let n : c.count.result ≡ count_by (λ o. o == c.args.board) (take k m.owners) = search rules in
-    ((omega (arith, c.in_ok-check_board.ensures.0, is.0), (on.0.0, omega arith)), n ∙ below_counted m.boards m.size m.owners c.args.board c.args.bound k high on.1)
+    ((omega (arith, c.in_ok-check_board.ensures.0, is.0), (on.0.0, omega arith)), c.occurrences.ensures ∙ below_counted m.boards m.size m.owners c.args.board c.args.bound k high on.1)
